@@ -7,10 +7,11 @@
 
 `xml_text` makes a list of what each tag and each text says. Python's expat is given nothing to do, so it makes no list.
 For each the processor time is told, the least of some rounds, less that of a file of the same size that isn't read past
-its first byte; the peak of memory, less the same; and the instructions a byte by valgrind, if it is there.
+its first byte; of our own reader also the peak of memory, less the same, and the instructions a byte by valgrind, if it is there.
 
 The reader is that of the repository. A program for it is proved and built in a temporary folder; rt begins with what it kept
-when it proved `xml_text`.
+when it proved `xml_text`. With --keep FILE the program is kept; with --beside FILE one that was kept, as of the version before,
+is measured beside it, round by round.
 """
 
 from __future__ import annotations
@@ -33,13 +34,15 @@ HAN, ENTRIES = 0x4E00, 20_902
 PROGRAM = """//! Reads each file that is named as a document, and prints how many tokens it says.
 #![tactic(auto)]
 
+use bumpalo::Bump;
 use std::{env, fs, io};
 use xml_text::read_document;
 
 fn main(rt: HostRuntime) -> io::Result<()> {
     for path in env::args(&rt)?.skip(1) {
         let text = fs::read(&rt, &path)?;
-        match read_document(rt.alloc(), &text) {
+        let arena = Bump::new(rt.alloc());
+        match read_document(rt.alloc(), &arena, &text) {
             Ok(tokens) => {
                 let count = tokens.len();
                 println!(rt; "{count} tokens")?;
@@ -96,7 +99,7 @@ def build(folder: Path) -> Path:
         ignored = shutil.ignore_patterns("out", "planted", "wrong-bodies", "must-fail")
         shutil.copytree(ROOT / "crates" / crate, folder / "crates" / crate, ignore=ignored)
     kept = [line for name, line in lines.items() if name in used]
-    (folder / "crates.txt").write_text("\n".join([*kept, "xml_reading: xml_text", ""]))
+    (folder / "crates.txt").write_text("\n".join([*kept, "xml_reading: xml_text bumpalo", ""]))
     place = folder / "crates" / "xml_reading"
     (place / "src").mkdir(parents=True)
     (place / "src" / "main.rt").write_text(PROGRAM)
@@ -116,32 +119,46 @@ def instructions(run: Run) -> int:
     return int(counted[1])
 
 
-def measure(folder: Path, rounds: int) -> None:
-    program, nothing = build(folder), Path(os.devnull)
+def measure(folder: Path, rounds: int, keep: Path | None, beside: Path | None) -> None:
+    nothing, readers = Path(os.devnull), {"idn2": build(folder)}
+    if keep is not None:
+        shutil.copy(readers["idn2"], keep)
+    if beside is not None:
+        readers["beside"] = beside.resolve()
     gnu_time, has_valgrind = found("time"), found("valgrind") is not None
-    print(f"{'':<14}{'bytes':>12}{'ms':>10}{'expat, ms':>12}{'MiB':>10}{'instructions a byte':>22}")
+    print(f"{'':<14}{'':<8}{'bytes':>12}{'ms':>10}{'MiB':>10}{'instructions a byte':>22}")
     for name, text in documents().items():
         whole, unread = folder / "whole.xml", folder / "unread.xml"
         whole.write_bytes(text)
         unread.write_bytes(b"\0" + text[1:])
-        ours, ours_less = (Run(program, [str(path)], nothing) for path in (whole, unread))
-        expat, expat_less = (Run(sys.executable, ["-c", EXPAT, str(path)], nothing) for path in (whole, unread))
-        if "tokens" not in ours.output():
-            raise Failed(f"{name} isn't read")
-        taken = [one.processor for one in in_turn([ours, ours_less, expat, expat_less], rounds)]
-        memory = (ours.kibibytes(gnu_time) - ours_less.kibibytes(gnu_time)) / 1024 if gnu_time else float("nan")
-        counted = (instructions(ours) - instructions(ours_less)) / len(text) if has_valgrind else float("nan")
-        print(f"{name:<14}{len(text):>12,}{1000 * (taken[0] - taken[1]):>10.1f}{1000 * (taken[2] - taken[3]):>12.1f}"
-              f"{memory:>10.1f}{counted:>22.2f}", flush=True)
+        runs = {
+            reader: tuple(Run(program, [str(path)], nothing) for path in (whole, unread))
+            for reader, program in readers.items()
+        }
+        for reader, (one, _) in runs.items():
+            if "tokens" not in one.output():
+                raise Failed(f"{reader} doesn't read {name}")
+        runs["expat"] = tuple(Run(sys.executable, ["-c", EXPAT, str(path)], nothing) for path in (whole, unread))
+        taken = [one.processor for one in in_turn([one for pair in runs.values() for one in pair], rounds)]
+        for place, (reader, (one, less)) in enumerate(runs.items()):
+            time = 1000 * (taken[2 * place] - taken[2 * place + 1])
+            row = f"{name:<14}{reader:<8}{len(text):>12,}{time:>10.1f}"
+            if reader != "expat" and gnu_time:
+                row += f"{(one.kibibytes(gnu_time) - less.kibibytes(gnu_time)) / 1024:>10.1f}"
+            if reader != "expat" and has_valgrind:
+                row += f"{(instructions(one) - instructions(less)) / len(text):>22.2f}"
+            print(row, flush=True)
 
 
 def main() -> str | None:
     words = argparse.ArgumentParser(description=__doc__, formatter_class=argparse.RawDescriptionHelpFormatter)
     words.add_argument("--rounds", type=int, default=5, help="rounds of which the least times are taken")
+    words.add_argument("--keep", type=Path, metavar="FILE", help="where the program is kept")
+    words.add_argument("--beside", type=Path, metavar="FILE", help="a program that was kept")
     options = words.parse_args()
     try:
         with tempfile.TemporaryDirectory() as folder:
-            measure(Path(folder), options.rounds)
+            measure(Path(folder), options.rounds, options.keep, options.beside)
     except Failed as failure:
         return str(failure)
     return None

@@ -28,6 +28,7 @@ LEVELS = 64
 PROGRAM = """//! Reads lines of hexadecimal digits as documents, and prints a sum of what each says, or where it stops.
 #![tactic(auto)]
 
+use bumpalo::Bump;
 use std::alloc::Global;
 use std::io;
 use xml_text::{DocumentError, Said, Token, read_document};
@@ -62,13 +63,13 @@ fn add_text(mut sum: u64, text: &[u8]) -> u64 {
 fn add_token(mut sum: u64, token: &Token) -> u64 {
     match token.said() {
         Said::Open(name, attributes) => {
-            sum = add_text(add(add(sum, 1), (token.line() % 251) as u8), name.as_slice());
-            for attribute in attributes {
+            sum = add_text(add(add(sum, 1), (token.line() % 251) as u8), name);
+            for attribute in *attributes {
                 sum = add_text(add_text(sum, attribute.name()), attribute.value());
             }
             sum
         }
-        Said::Text(bytes) => add_text(add(sum, 2), bytes.as_slice()),
+        Said::Text(bytes) => add_text(add(sum, 2), bytes),
         Said::Close => add(sum, 3),
     }
 }
@@ -77,7 +78,8 @@ fn main(rt: HostRuntime) -> io::Result<()> {
     for line in rt.lines(rt.alloc()) {
         let line = line?;
         let text = bytes_of(rt.alloc(), line.as_str().as_bytes())?;
-        match read_document(rt.alloc(), &text) {
+        let arena = Bump::new(rt.alloc());
+        match read_document(rt.alloc(), &arena, &text) {
             Ok(tokens) => {
                 let mut sum = 0xcbf29ce484222325;
                 for token in &tokens {
@@ -182,7 +184,7 @@ def build(folder: Path) -> list[str]:
     for crate in used:
         ignored = shutil.ignore_patterns("out", "planted", "wrong-bodies", "must-fail")
         shutil.copytree(ROOT / "crates" / crate, folder / "crates" / crate, ignore=ignored)
-    (folder / "crates.txt").write_text("\n".join([*used.values(), "xml_documents: xml_text", ""]))
+    (folder / "crates.txt").write_text("\n".join([*used.values(), "xml_documents: xml_text bumpalo", ""]))
     source = folder / "crates" / "xml_documents" / "src"
     source.mkdir(parents=True)
     (source / "main.rt").write_text(PROGRAM)

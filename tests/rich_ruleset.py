@@ -53,7 +53,8 @@ class RichRuleset(RandomRuleset):
     def set(self):
         choice = self.random.choice
         one = lambda: choice(('<class from-tag="t"/>', '<class from-tag="u"/>', "<class>0061-0062 0068</class>",
-                              '<class property="gc:Ll"/>', '<class property="ccc:230"/>', self.named))
+                              '<class property="gc:Ll"/>', '<class property="ccc:230"/>', '<class property="gc:Nd"/>',
+                              self.named))
         word = choice(("union", "intersection", "difference", "symmetric-difference"))
         return choice((one(), one(), f"<complement>{one()}</complement>", f"<{word}>{one()}{one()}</{word}>"))
 
@@ -70,8 +71,10 @@ class RichRuleset(RandomRuleset):
         return counted(made, self.maybe(0.4, self.random.choice(("0+", "1+", "2", "0:1", "1:2", "2+"))))
 
     def behind_and_ahead(self):
+        inner = lambda: counted('<rule by-ref="inner"/>', self.maybe(0.4, self.random.choice(("0+", "1+", "0:1"))))
         behind = self.maybe(0.3, "<start/>") + self.maybe(0.8, self.operator()) + self.maybe(0.2, self.operator())
-        ahead = self.maybe(0.5, self.operator()) + self.maybe(0.3, "<end/>")
+        behind += self.maybe(0.2, inner())
+        ahead = self.maybe(0.5, self.operator()) + self.maybe(0.2, inner()) + self.maybe(0.3, "<end/>")
         behind = f"<look-behind>{behind}</look-behind>" if behind else ""
         return behind + "<anchor/>" + (f"<look-ahead>{ahead}</look-ahead>" if ahead else "")
 

@@ -8,6 +8,7 @@ BEHIND_A = '<look-behind><char cp="0061"/></look-behind><anchor/>'
 BEHIND, AHEAD = "<look-behind><any/></look-behind>", "<look-ahead><any/></look-ahead>"
 CONSONANTS = "".join(f'<char cp="{cp}" tag="consonant"/>' for cp in ("0062", "0063", "0064"))
 ABC = "".join(f'<char cp="{cp}"/>' for cp in ("0061", "0062", "0063"))
+NO_DIGIT = '<class property="gc:Nd" count="1+"/>'
 HAN = ("56FD", "570B"), ("5B66", "5B78")
 
 
@@ -61,6 +62,21 @@ ROWS = [
      rule("<look-behind><start/></look-behind><anchor/>", "first")
      + rule(f'<choice><rule by-ref="first"/><rule>{BEHIND_A}</rule></choice>'),
      {"b": "invalid", "ab": "invalid", "cb": "cb", "cbb": "cbb"}),
+    ("a rule by its name after the anchor, and none of its code points in labels", ABC.replace('"0062"', '"0062" when="r"'),
+     rule(NO_DIGIT, "s") + rule('<anchor/><look-ahead><rule by-ref="s"/></look-ahead>'),
+     {"b": "invalid", "bc": "invalid", "abb": "invalid", "ac": "ac"}),
+    ("the same before it", ABC.replace('"0062"', '"0062" not-when="r"'),
+     rule(NO_DIGIT, "s") + rule('<look-behind><rule by-ref="s"/></look-behind><anchor/>'), {"b": "b", "cb": "cb", "bab": "bab"}),
+    ("the same in a choice, where it may be left out", ABC.replace('"0062"', '"0062" when="r"'),
+     rule(f'<choice>{NO_DIGIT}<char cp="0078" count="0:1"/></choice>', "s")
+     + rule('<anchor/><look-ahead><rule by-ref="s"/><char cp="0063"/></look-ahead>'),
+     {"bc": "bc", "abca": "abca", "b": "invalid", "bac": "invalid"}),
+    ("a choice of nothing that labels have, on both sides", ABC.replace('"0062"', '"0062" when="r"'),
+     rule(f'<choice>{NO_DIGIT}<char cp="0078"/></choice>', "s")
+     + rule('<choice><rule><look-behind><rule by-ref="s"/></look-behind><anchor/></rule>'
+            '<rule><anchor/><look-ahead><char cp="0061"/><rule by-ref="s"/></look-ahead></rule>'
+            '<rule><look-behind><char cp="0063"/></look-behind><anchor/></rule></choice>'),
+     {"b": "invalid", "ba": "invalid", "cb": "cb", "ab": "invalid"}),
     ("parts beside a choice of anchors", ABC.replace('"0062"', '"0062" when="r"'),
      rule(f'<choice><rule>{BEHIND_A}</rule><rule><look-behind><char cp="0063"/></look-behind><anchor/></rule></choice>'
           "<end/>"), {"ab": "ab", "cb": "cb", "aba": "invalid"}),

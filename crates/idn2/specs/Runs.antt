@@ -6,17 +6,15 @@ use Rattle.registered_labels.specs.declared.labels.RegisteredFileFault.{Register
 use Rattle.idn2_cli.specs.Settings.{Settings, keeping}
 use Rattle.idn2_output.specs.declared.status.Status.{Status}
 use Rattle.idn2_output.specs.Writing.{Held}
-use Rattle.idn2_cli.specs.Ends.{Ends, TellsUnread, mode_job}
+use Rattle.idn2_cli.specs.Ends.{RunsBy, TellsUnread}
 use Rattle.idn2_cli.specs.Headline.{AnswersLabels, PrintsByText}
-use Rattle.idn2_answers.specs.Transcript.{TableGiven, IsTableOf}
 
 -- by a table of this text, among these registered labels, if there are some: the input is read from here to there, the
 -- output and the messages take what the run says, and for a table without a fault the answer to each line is that of
--- the theorem
+-- the theorem; or memory ran out before the table was known
 pub record Runs (o : Settings) (table : List ℕ) (labels : Option (List (List ℕ))) (start now : Reading)
     (old new : Held) (status : Status) : Type 0 where
-  pub ends : (given : TableGiven) × IsTableOf (keeping labels o) table given
-      × Ends (mode_job (keeping labels o) given) start now old new status
+  pub ends : RunsBy (keeping labels o) table start now old new status
   pub headline : AnswersLabels o.mode
       → PrintsByText (keeping labels o) table start now old.output.contents new.output.contents status
 

@@ -24,3 +24,19 @@ pub mod RegisteredLines
 pub mod CollisionTests
 -- The registered labels that collide with a label, and its block.
 pub mod FoundLabels
+-- What types, rules, actions and demands of a ruleset in XML are in its table.
+pub mod RulesetTypes
+pub mod RulesetFirsts
+pub mod RulesetRules
+pub mod RulesetActions
+pub mod RulesetDemands
+-- How labels are cut under either, and what their readings record.
+pub mod RulesetPieces
+pub mod RulesetConditions
+pub mod RulesetCuts
+pub mod RulesetReadings
+pub mod RulesetKinds
+pub mod RulesetClear
+-- So labels are answered alike.
+pub mod RulesetLabels
+pub mod RulesetAnswers

@@ -5,3 +5,4 @@ pub mod Listings
 pub mod Collisions
 pub mod Answers
 pub mod Transcript
+pub mod Rulesets

@@ -80,11 +80,6 @@ ruleset_refusal lgr.NoSuchName = refusals.NoSuchName
 ruleset_refusal lgr.SameName = refusals.SameName
 ruleset_refusal lgr.NotSupported = refusals.NotSupported
 
--- the text says no ruleset, or one that has this fault; of a limit nothing is said
-abbrev pub IsFaultOfRuleset : List ℕ → TableFault → ℕ → Type 0
-IsFaultOfRuleset text lgr.Limit line = Unit {0}
-IsFaultOfRuleset text kind line = IsToldOf text (Fault kind line)
-
 -- of a text that is in XML, or isn't: this table says what the ruleset says, or the text spells this table
 abbrev pub GivesTable : Bool → Properties → Notation → List ℕ → TableValue → Type 0
 GivesTable true properties notation text table = IsTableOfText properties text table
@@ -93,7 +88,8 @@ GivesTable false properties notation text table = IsTextOf properties notation t
 -- it has this fault, of which no cause is told, or this first fault, and this is its cause
 abbrev pub GivesFault : Bool → Properties → Notation → List ℕ → ℕ × Refusal × Option LineCause → Type 0
 GivesFault true properties notation text fault =
-    (kind : TableFault) × (ruleset_refusal kind ≡ fault.1) × IsFaultOfRuleset text kind fault.0 × (fault.2 ≡ None)
+    (kind : TableFault) × (ruleset_refusal kind ≡ fault.1) × IsToldOf properties text (Fault kind fault.0)
+    × (fault.2 ≡ None)
 GivesFault false properties notation text fault =
     (kind : LineFault) × (table_refusal kind ≡ fault.1) × IsFaultOf properties notation text fault.0 kind
     × (fault.2 ≡ fault_cause properties notation text (fault_of_line fault.0 kind))

@@ -10,7 +10,7 @@ use Rattle.std.proofs.lemmas.List.{append-nil, take-append-drop}
 use Rattle.idn_class.specs.declared.properties.Properties.{Properties}
 use Rattle.idn_text.specs.Points.{AreScalarValues, utf8_of}
 use Rattle.idn_text.specs.Lines.{Numbered}
-use Rattle.idn_text.specs.Reading.{Reading}
+use Rattle.idn_text.specs.Reading.{IsUnread, Reading}
 use Rattle.idn_text.specs.Writers.{Writer}
 use Rattle.idn_text.specs.declared.refusal.Refusal.{Refusal}
 use Rattle.idn_text.specs.declared.refusal.Refusal.TheVariants.{Empty, LineTooLong, NotUtf8}
@@ -31,14 +31,16 @@ use Rattle.idn2_options.specs.declared.command_line.form.Form.{Form}
 use Rattle.idn2_options.specs.declared.command_line.form.Form.TheVariants.{Plain, Json}
 use Rattle.idn2_answers.specs.Said.{Said, said_text}
 use Rattle.idn2_output.specs.OutputLines.{OutputLine, Output, Message, outputs, output_of}
-use Rattle.idn2_answers.specs.Transcript.{HasFault, Refuses, TableGiven, AreCrowded, IsListedBy, IsReadAs, IsSearchedAs, IsTableFor, IsTableOf, is_in_xml, mode_output, line_output, lines_output, output_line_in, output_for, explained_in}
+use Rattle.idn2_answers.specs.Transcript.{GivesTable, HasFault, IsTableIn, Refuses, TableGiven, AreCrowded, IsListedBy, IsReadAs, IsSearchedAs, IsTableFor, IsTableOf, is_in_xml, mode_output, line_output, lines_output, output_line_in, output_for, explained_in}
 use Rattle.idn2_refusals.specs.Messages.{refused_object}
 use Rattle.idn2_refusals.specs.declared.cause.LineCause.{LineCause}
 use Rattle.idn2_refusals.specs.Explained.{Explained, body_cause}
 use Rattle.idn2_output.specs.Writing.{Held, IsCutBy, refusal_of}
-use Rattle.idn2_cli.specs.Ends.{Job, reads_lines, Does, Ends, Stands, Stops, StopsAtLine, StopsUnread, Closes, mode_job}
+use Rattle.idn2_cli.specs.Ends.{Job, reads_lines, Does, Ends, RunsBy, RunsOut, Stands, Stops, StopsAtLine, StopsUnread, Closes, mode_job}
+use Rattle.idn2_cli.proofs.RunEnds.{stopped-unread}
 use Rattle.idn2_refusals.specs.Reports.{closing_status}
-use Rattle.idn2_cli.specs.Headline.{asked_label, printed_of, printed_refusal, AnswersLabels, IsAnswer, IsLineOf, IsPrintedFor, ArePrintedFor, PrintsAnswers, PrintsByText, ReadsNothing}
+use Rattle.idn2_answers.proofs.RulesetAnswers.{answers-as-text}
+use Rattle.idn2_cli.specs.Headline.{AnswersAsItsText, asked_label, printed_of, printed_refusal, AnswersLabels, IsAnswer, IsLineOf, IsPrintedFor, ArePrintedFor, PrintsAnswers, PrintsByText, ReadsNothing}
 use Rattle.idn2_output.specs.declared.status.Status.{Status}
 use Rattle.idn2_output.specs.declared.status.Status.TheVariants.{Clean, Refused, Unusable, Faulty, OutOfMemory}
 use Rattle.idn2_output.specs.declared.stop.Stop.{Stop}
@@ -355,6 +357,17 @@ module _ (o : Settings) (text : List ℕ) (table : TableValue) where
   sound_given =
       by_mode (λ m. IsTableBy m (Ok table) → IsSound table) (sound_listed o.properties o.notation text table o.registered) (λ given. sound_read o.properties o.notation text table given.0)
 
+  -- of a ruleset in XML it answers as that says
+  answers_read : IsTableIn o.properties o.notation text table → AnswersAsItsText o text table
+  answers_read given xml = answers-as-text o.properties text table (subst (λ (b : Bool). GivesTable b o.properties o.notation text table) xml given)
+
+  answers_listed : (registered : Option (List (List ℕ))) → IsListedBy registered o.properties o.notation text (Ok table) → AnswersAsItsText o text table
+  answers_listed None given = answers_read given
+  answers_listed (Some labels) given = answers_read given.0
+
+  answers_given : (mode : Mode) → AnswersLabels mode → IsTableBy mode (Ok table) → AnswersAsItsText o text table
+  answers_given = by_mode (λ m. IsTableBy m (Ok table) → AnswersAsItsText o text table) (answers_listed o.registered) (λ given. answers_read given.0)
+
 -- a table that can't be used, or a stop before it was read
 nothing-read : (o : Settings) (fault : ℕ × Refusal × Option LineCause) (start now : Reading) (old new : Held) (status : Status) → Ends (mode_job o (Err fault)) start now old new status → ReadsNothing start now status
 nothing-read o fault start now old new status (inl does) = record {
@@ -368,20 +381,46 @@ nothing-read o fault start now old new status (inr stops) = record {
   not_refused = λ is. stopped-status stops.why (inr (sym stops.answered ∙ is));
 }
 
+-- and where memory ran out before
+nothing-out : (o : Settings) (start now : Reading) (old new : Held) (status : Status) → RunsOut o start now old new status → ReadsNothing start now status
+nothing-out o start now old new status out = record {
+  unread = out.unread;
+  not_clean = λ is. stopped-status stop.Memory (inl (sym out.told.2 ∙ is));
+  not_refused = λ is. stopped-status stop.Memory (inr (sym out.told.2 ∙ is));
+}
+
+-- then the job of any table is stopped before a line was read
+out-ends : (o : Settings) (given : TableGiven) (start now : Reading) (old new : Held) (status : Status) → IsUnread start → RunsOut o start now old new status → Ends (mode_job o given) start now old new status
+out-ends o given start now old new status unread out = inr (record {
+  why = stop.Memory;
+  middle = old;
+  stopped = subst (λ (n : Reading). Does (mode_job o given) start n old old (Err stop.Memory)) (sym out.unread) (stopped-unread (mode_job o given) start old unread out.by_table);
+  closes = (out.told.0, out.told.1);
+  answered = out.told.2;
+})
+
 -- the law: what a run ends with is the theorem of its answers
-pub headline : (o : Settings) (text : List ℕ) (given : TableGiven) (start now : Reading) (old new : Held) (status : Status)
-    → HasRising o.registered → AnswersLabels o.mode → IsTableOf o text given → Ends (mode_job o given) start now old new status
+pub headline : (o : Settings) (text : List ℕ) (start now : Reading) (old new : Held) (status : Status)
+    → HasRising o.registered → AnswersLabels o.mode → IsUnread start → RunsBy o text start now old new status
     → PrintsByText o text start now old.output.contents new.output.contents status
-headline o text given start now old new status rising asks read ends = record { spelled = spelled; said = said given read ends }
+headline o text start now old new status rising asks fresh runs = record { spelled = λ table lines is. prints table is (by_table table lines is runs); said = said runs }
   where
     prints : (table : TableValue) → IsTableOf o text (Ok table) → Ends (mode_job o (Ok table)) start now old new status → PrintsAnswers o table start now old.output.contents new.output.contents status
     prints table is ends = ends-prints o table (sound_given o text table o.mode asks is) rising asks start now old new status ends
 
-    spelled : (table : TableValue) → is_in_xml o.notation text ≡ false → IsTableOf o text (Ok table) → PrintsAnswers o table start now old.output.contents new.output.contents status
-    spelled table lines is =
-        prints table is (subst (λ (g : TableGiven). Ends (mode_job o g) start now old new status) (same_given o text table lines given o.mode asks read is) ends)
+    by_table : (table : TableValue) → is_in_xml o.notation text ≡ false → IsTableOf o text (Ok table) → RunsBy o text start now old new status → Ends (mode_job o (Ok table)) start now old new status
+    by_table table lines is (inl ends) =
+        subst (λ (g : TableGiven). Ends (mode_job o g) start now old new status) (same_given o text table lines ends.0 o.mode asks ends.1 is) ends.2
+    by_table table lines is (inr out) = out-ends o (Ok table) start now old new status fresh out
 
-    said : (given : TableGiven) → IsTableOf o text given → Ends (mode_job o given) start now old new status
-        → ReadsNothing start now status ⊎ ((table : TableValue) × IsTableOf o text (Ok table) × PrintsAnswers o table start now old.output.contents new.output.contents status)
-    said (Ok table) is ends = inr (table, is, prints table is ends)
-    said (Err fault) is ends = inl (nothing-read o fault start now old new status ends)
+    said_of : (given : TableGiven) → IsTableOf o text given → Ends (mode_job o given) start now old new status
+        → ReadsNothing start now status ⊎ ((table : TableValue) × IsTableOf o text (Ok table) × AnswersAsItsText o text table
+        × PrintsAnswers o table start now old.output.contents new.output.contents status)
+    said_of (Ok table) is ends = inr (table, is, answers_given o text table o.mode asks is, prints table is ends)
+    said_of (Err fault) is ends = inl (nothing-read o fault start now old new status ends)
+
+    said : RunsBy o text start now old new status
+        → ReadsNothing start now status ⊎ ((table : TableValue) × IsTableOf o text (Ok table) × AnswersAsItsText o text table
+        × PrintsAnswers o table start now old.output.contents new.output.contents status)
+    said (inl ends) = said_of ends.0 ends.1 ends.2
+    said (inr out) = inl (nothing-out o start now old new status out)

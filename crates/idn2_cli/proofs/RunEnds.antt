@@ -18,7 +18,7 @@ use Rattle.idn2_refusals.specs.Messages.{fault_line}
 use Rattle.idn2_output.specs.OutputLines.{Output, OutputLine}
 use Rattle.idn2_output.specs.Writing.{Held, refusal_of, Emits}
 use Rattle.idn2_refusals.specs.Reports.{TakesText, closing_message}
-use Rattle.idn2_cli.specs.Ends.{Job, Does, Ends, EndsEarly, EndsWell, Closes, Stands, StopsAtLine, StopsUnread, at_lines_alone, lines_job, mode_job}
+use Rattle.idn2_cli.specs.Ends.{Job, Does, RunsBy, Ends, EndsEarly, EndsWell, Closes, Stands, StopsAtLine, StopsUnread, at_lines_alone, lines_job, mode_job}
 use Rattle.idn2_options.specs.declared.command_line.form.Form.{Form}
 use Rattle.idn2_options.specs.declared.command_line.mode.Mode.{Mode}
 use Rattle.idn2_options.specs.declared.command_line.mode.Mode.TheVariants.{Variants, CheckTable, PrintTable}
@@ -30,7 +30,7 @@ use Rattle.idn2_output.specs.declared.stop.Stop.{Stop}
 use Rattle.idn2_output.specs.declared.stop.Stop.TheVariants as stop
 use Rattle.idn2_output.proofs.WrittenOutputLines.{stops_first}
 use Rattle.idn2_cli.proofs.LineSteps.{stands_at}
-use Rattle.idn2_cli.proofs.TableLemmas.{no_cause, some_table, some_searched}
+use Rattle.idn2_cli.proofs.TableLemmas.{no_cause}
 use Rattle.idn2_cli.specs.inner.UnreadTables.{TellsFault}
 use Rattle.idn2_refusals.specs.declared.cause.LineCause.{LineCause}
 use Rattle.variant_table.specs.declared.version.Notation.{Notation}
@@ -79,7 +79,7 @@ module _ (job : Job) (start now : Reading) (old new : Held) where
 pub as_mode : (o : Settings) (mode : Mode) (text : List ℕ) (given : TableGiven) (job : Job) (start now : Reading) (old new : Held) (r : Result Status Stop)
     → o.mode ≡ mode → IsTableFor mode o.registered o.properties o.notation text given → job ≡ mode_job (record o { mode = mode }) given → Does job start now old new r
     → Serves o text start now old new r
-as_mode o mode text given job start now old new r e table same done = (
+as_mode o mode text given job start now old new r e table same done = inl (
   given,
   subst (λ (m : Mode). IsTableFor m o.registered o.properties o.notation text given) (sym e) table,
   does_mode o mode given job start now old new r e same done,
@@ -130,6 +130,11 @@ pub emits_memory : {A : Type 0} (old : Held) (output_lines : List OutputLine) (r
 emits_memory {A} old output_lines r why e memory =
     subst (λ (s : Result A Stop). Emits old old output_lines s) (sym (e ∙ ap Err memory)) (stops_first old output_lines)
 
+pub stopped-unread : (job : Job) (start : Reading) (old : Held) → IsUnread start → job.reads_table ≡ true → Does job start start old old (Err stop.Memory)
+stopped-unread job start old unread by_table =
+    let stopped : Result Status Stop = Err stop.Memory in
+    does_unread job start old old stopped unread (emits_memory {A = Status} old (job.output_lines []) stopped stop.Memory refl refl) tt by_table
+
 -- memory was refused after the table was read, and before a line was
 pub listed_stopped : (o : Settings) (table : TableValue) (start : Reading) (old : Held) (r : Result Status Stop) → o.mode ≡ Variants → IsUnread start → r ≡ Err stop.Memory → Does (mode_job o (Ok table)) start start old old r
 listed_stopped o table start old r e unread memory =
@@ -143,13 +148,8 @@ listed_stopped o table start old r e unread memory =
 -- its table is the one that the text spells
 pub record WorksByTable (o : Settings) (mode : Mode) : Type 0 where
   pub named : o.mode ≡ mode
-  pub some : (text : List ℕ) → (given : TableGiven) × IsTableFor mode o.registered o.properties o.notation text given
   pub faults : (text : List ℕ) (told : ℕ × Refusal × Option LineCause) → IsReadAs o.properties o.notation text (Err told) → IsTableFor mode o.registered o.properties o.notation text (Err told)
   pub by_table : reads_table mode ≡ true
-
-some_listed : (properties : Properties) (n : Notation) (text : List ℕ) (registered : Option (List (List ℕ))) → (given : TableGiven) × IsListedBy registered properties n text given
-some_listed properties n text None = some_table properties n text
-some_listed properties n text (Some labels) = some_searched properties n text
 
 faults_listed : (properties : Properties) (n : Notation) (text : List ℕ) (registered : Option (List (List ℕ))) (told : ℕ × Refusal × Option LineCause) → IsReadAs properties n text (Err told) → IsListedBy registered properties n text (Err told)
 faults_listed properties n text None told read = read
@@ -158,13 +158,12 @@ faults_listed properties n text (Some labels) told read = inl read
 pub works_by_table : (o : Settings) (mode : TableMode) → o.mode ≡ mode_of mode → WorksByTable o (mode_of mode)
 works_by_table o work.Variants is = record {
   named = is;
-  some = λ text. some_listed o.properties o.notation text o.registered;
   faults = λ text told read. faults_listed o.properties o.notation text o.registered told read;
   by_table = refl;
 }
-works_by_table o work.Jump is = record { named = is; some = λ text. some_searched o.properties o.notation text; faults = λ text told read. inl read; by_table = refl }
-works_by_table o work.Check is = record { named = is; some = λ text. some_table o.properties o.notation text; faults = λ text told read. read; by_table = refl }
-works_by_table o work.Print is = record { named = is; some = λ text. some_table o.properties o.notation text; faults = λ text told read. read; by_table = refl }
+works_by_table o work.Jump is = record { named = is; faults = λ text told read. inl read; by_table = refl }
+works_by_table o work.Check is = record { named = is; faults = λ text told read. read; by_table = refl }
+works_by_table o work.Print is = record { named = is; faults = λ text told read. read; by_table = refl }
 
 -- ---- the table that was read
 
@@ -196,11 +195,7 @@ module _ (o : Settings) (mode : Mode) (works : WorksByTable o mode) (text : List
   unread_stopped : (old : Held) (r : Result Status Stop) (why : Stop) → IsUnread start → r ≡ Err why → why ≡ stop.Memory
       → Serves o text start start old old r
   unread_stopped old r why unread is memory =
-      let t = works.some text in
-      let job = mode_job (record o { mode = mode }) t.0 in
-      as_mode o mode text t.0 job start start old old r works.named t.1 refl
-      (does_unread job start old old r unread (emits_memory old (job.output_lines []) r why is memory)
-      (subst (λ (s : Result Status Stop). IfOk s (λ status. (job.reads ≡ false) × (status ≡ job.status []))) (sym is) tt) works.by_table)
+      inr (record { by_table = ap reads_table works.named ∙ works.by_table; why = is ∙ ap Err memory; unread = refl; unwritten = refl })
 
   -- the fault of the table is told
   faulty : (told : ℕ × Refusal × Option LineCause) (old new : Held) (r : Result Status Stop)
@@ -218,9 +213,9 @@ module _ (o : Settings) (mode : Mode) (works : WorksByTable o mode) (text : List
       (unread_stopped old r stop.Memory unread memory.0 refl)
   refused_text old new r unread (inr t) = faulty t.0 old new r t.1 unread t.2 t.3
 
--- the same job under another name
-pub ends_as : (job other : Job) (start now : Reading) (old new : Held) (status : Status) → job ≡ other → Ends job start now old new status → Ends other start now old new status
-ends_as job other start now old new status same done = subst (λ (j : Job). Ends j start now old new status) same done
+-- the same run under another name of its settings
+pub runs_as : (o p : Settings) (text : List ℕ) (start now : Reading) (old new : Held) (status : Status) → o ≡ p → RunsBy o text start now old new status → RunsBy p text start now old new status
+runs_as o p text start now old new status same runs = subst (λ (x : Settings). RunsBy x text start now old new status) same runs
 
 -- the form, whether causes are wanted and the notation, read from the options
 pub in_form : (text : List ℕ) (f g : Form) (a b : Bool) (p q : Properties) (m n : Notation) (old new : Held) (r : Result Status Stop) → f ≡ g → a ≡ b → p ≡ q → m ≡ n
@@ -256,11 +251,7 @@ crowded_search o among text line start old new r is registered crowded unread wr
 pub search_stopped : (o : Settings) (among : Option (List (List ℕ))) (text : List ℕ) (start : Reading) (old : Held) (r : Result Status Stop)
     → o.mode ≡ search_mode among → IfSome among (λ labels. o.registered ≡ Some labels) → IsUnread start → r ≡ Err stop.Memory → Serves o text start start old old r
 search_stopped o among text start old r is registered unread memory =
-    let t = some_searched o.properties o.notation text in
-    let job = mode_job (record o { mode = search_mode among }) t.0 in
-    as_mode o (search_mode among) text t.0 job start start old old r is (searched_for o text t.0 among registered t.1) refl
-    (does_unread job start old old r unread (emits_memory old (job.output_lines []) r stop.Memory memory refl)
-    (subst (λ (s : Result Status Stop). IfOk s (λ status. (job.reads ≡ false) × (status ≡ job.status []))) (sym memory) tt) (search_reads among))
+    inr (record { by_table = ap reads_table is ∙ search_reads among; why = memory; unread = refl; unwritten = refl })
 
 -- ---- the settings of a run, by its options and its registered labels
 

@@ -1,23 +1,18 @@
 -- The table of a run.
-use Rattle.std.proofs.Common.{◌≡◌, ◌<◌, ◌⊎◌, inl, inr, ℕ, Bool, true, false, length, List, Result, Option, Some, None, Ok, Err, IfOk, [], ◌∷◌, refl, sym, ap, subst, ◌∙◌}
+use Rattle.std.proofs.Common.{◌≡◌, ◌⊎◌, inl, inr, ℕ, Bool, true, false, List, Result, Option, Some, None, Err, IfOk, [], ◌∷◌, refl, sym, ap, subst, ◌∙◌}
 use Rattle.idn_class.specs.declared.properties.Properties.{Properties}
 use Rattle.idn_text.specs.declared.refusal.Refusal.{Refusal}
 use Rattle.variant_table.specs.declared.version.Notation.{Notation}
 use Rattle.variant_table.specs.Entries.{TableValue}
-use Rattle.variant_table.specs.Texts.{IsTextOf, IsFaultOf, IsToldOf}
+use Rattle.variant_table.specs.Texts.{IsTextOf, IsToldOf}
 use Rattle.variant_table.specs.Faults.{table_fault, LineFault}
 use Rattle.variant_table.specs.Faults as kinds
 use Rattle.variant_table.specs.declared.fault.TableFault.{TableFault}
-use Rattle.variant_table.proofs.TextLemmas.{text_decided}
-use Rattle.variant_table.proofs.EntryLines.{has-line}
-use Rattle.variant_list.proofs.CrowdLemmas.{crowded-somewhere}
-use Rattle.idn_text.specs.declared.refusal.Refusal.TheVariants as refusals
 use Rattle.variant_table.specs.WellFormed.{IsTable}
 use Rattle.lgr_table.specs.Texts as xml
 use Rattle.lgr_table.specs.declared.fault.TableError.TheVariants.{Fault}
 use Rattle.lgr_table.specs.declared.fault.TableFault as xml_faults
-use Rattle.lgr_table.specs.declared.fault.TableFault.TheVariants as lgr
-use Rattle.idn2_answers.specs.Transcript.{TableGiven, GivesFault, GivesTable, HasFault, IsFaultOfRuleset, IsReadAs, IsSearchedAs, IsTableIn, IsToldFor, is_in_xml, ruleset_refusal, table_refusal, check_output}
+use Rattle.idn2_answers.specs.Transcript.{GivesFault, GivesTable, HasFault, IsReadAs, IsTableIn, is_in_xml, ruleset_refusal, table_refusal, check_output}
 use Rattle.idn2_refusals.specs.Messages.{fault_line}
 use Rattle.idn2_refusals.specs.TableCauses.{fault_cause, told_if}
 use Rattle.idn2_refusals.proofs.ToldRefusals.{IsTold}
@@ -45,15 +40,6 @@ module _ (properties : Properties) (n : Notation) (text : List ℕ) where
     pub formed : IsTableIn properties n text table → IsTable table
     formed given = formed_by (is_in_xml n text) given
 
-    -- some line is told of an entry
-    pub some_line : (entry : ℕ) → IsTableIn properties n text table → entry < length table.entries
-        → (line : ℕ) × IsToldFor (is_in_xml n text) n text table entry line
-    some_line entry given within = by (is_in_xml n text) given
-      where
-        by : (b : Bool) → GivesTable b properties n text table → (line : ℕ) × IsToldFor b n text table entry line
-        by true given = (1, refl)
-        by false given = has-line properties n text table entry given within
-
   -- the other way round
   pub given_by : (b : Bool) (table : TableValue) → is_in_xml n text ≡ b → GivesTable b properties n text table → IsTableIn properties n text table
   given_by b table is given = subst (λ (x : Bool). GivesTable x properties n text table) (sym is) given
@@ -63,42 +49,6 @@ module _ (properties : Properties) (n : Notation) (text : List ℕ) where
 
   pub fault_in_lines : (fault : ℕ × Refusal × Option LineCause) → is_in_xml n text ≡ false → HasFault properties n text fault → GivesFault false properties n text fault
   fault_in_lines fault lines has = subst (λ (b : Bool). GivesFault b properties n text fault) lines has
-
-module _ (properties : Properties) where
-  abbrev IsReadBy : Bool → Notation → List ℕ → TableGiven → Type 0
-  IsReadBy b n text (Ok table) = GivesTable b properties n text table
-  IsReadBy b n text (Err fault) = GivesFault b properties n text fault
-
-  read_by : (n : Notation) (text : List ℕ) (given : TableGiven) → IsReadBy (is_in_xml n text) n text given → IsReadAs properties n text given
-  read_by n text (Ok table) read = read
-  read_by n text (Err fault) read = read
-
-  some_by : (b : Bool) (n : Notation) (text : List ℕ) → (given : TableGiven) × IsReadBy b n text given
-  some_by true n text = (Err (1, refusals.Limit, None), (lgr.Limit, refl, tt, refl))
-  some_by false n text = decided (text_decided properties n text)
-    where
-      decided : ((table : TableValue) × IsTextOf properties n text table) ⊎ ((line : ℕ) × (kind : LineFault) × IsFaultOf properties n text line kind) → (given : TableGiven) × IsReadBy false n text given
-      decided (inl t) = (Ok t.0, t.1)
-      decided (inr f) = (Err (f.0, table_refusal f.1, fault_cause properties n text (table_fault f.0 f.1)), (f.1, refl, f.2, refl))
-
-  -- each text is read as some table or some fault
-  pub some_table : (n : Notation) (text : List ℕ) → (given : TableGiven) × IsReadAs properties n text given
-  some_table n text =
-      let some = some_by (is_in_xml n text) n text in
-      (some.0, read_by n text some.0 some.1)
-
--- and a table by which collisions are searched, or aren't
-pub some_searched : (properties : Properties) (n : Notation) (text : List ℕ) → (given : TableGiven) × IsSearchedAs properties n text given
-some_searched properties n text = by (some_table properties n text)
-  where
-    by : (given : TableGiven) × IsReadAs properties n text given → (given : TableGiven) × IsSearchedAs properties n text given
-    by (Ok table, read) = elim (crowded-somewhere table.entries (formed properties n text table read).well_formed) [
-      | inl at ↦
-          let line = some_line properties n text table at.0 read at.1.within in
-          (Err (line.0, refusals.Limit, None), inr (record { table = table; given = read; entry = at.0; source = at.1; here = line.1 }, refl, refl))
-      | inr free ↦ (Ok table, (read, free))
-    ]
-    by (Err fault, read) = (Err fault, inl read)
 
 told_of-fault : (line : ℕ) (kind : LineFault) → told_of (table_fault line kind) ≡ Some (line, table_refusal kind)
 told_of-fault line kinds.Limit = refl
@@ -148,24 +98,14 @@ module _ (form : Form) (wanted : Bool) (properties : Properties) (n : Notation) 
     | inr t ↦ inr (t.0, t.1, t.2, unusable)
   ]
 
-  known : (fault : xml_faults.TableFault) (line : ℕ) → xml.IsToldOf text (Fault fault line) → IsFaultOfRuleset text fault line
-  known lgr.Syntax line told = told
-  known lgr.SameSource line told = told
-  known lgr.SameVariant line told = told
-  known lgr.BadClass line told = told
-  known lgr.Limit line told = tt
-  known lgr.NoSuchName line told = told
-  known lgr.SameName line told = told
-  known lgr.NotSupported line told = told
-
   -- and of a ruleset in XML
-  pub tells_ruleset : (fault : xml_faults.TableFault) (line : ℕ) → is_in_xml n text ≡ true → xml.IsToldOf text (Fault fault line)
+  pub tells_ruleset : (fault : xml_faults.TableFault) (line : ℕ) → is_in_xml n text ≡ true → xml.IsToldOf properties text (Fault fault line)
       → Emits old new (fault_line form line (ruleset_refusal fault) None ∷ []) r → IfOk r (λ status. status ≡ Unusable) → TellsFault form wanted properties n text old new r
   tells_ruleset fault line is told writes unusable =
       let given : ℕ × Refusal × Option LineCause = (line, ruleset_refusal fault, None) in
       inr (
         given,
-        faulty_by properties n text true given is (fault, refl, known fault line told, refl),
+        faulty_by properties n text true given is (fault, refl, told, refl),
         subst (λ (cause : Option LineCause). Emits old new (fault_line form line (ruleset_refusal fault) cause ∷ []) r) (sym (no_cause wanted)) writes,
         unusable,
       )

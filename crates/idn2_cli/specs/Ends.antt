@@ -5,6 +5,7 @@ use Rattle.idn2_refusals.specs.Reports.{TakesText, TellsMemory, TellsUnreadLine,
 use Rattle.idn2_output.specs.Writing.{refusal_of, Held, Writes, IsCutBy, WritesUntil}
 use Rattle.idn2_output.specs.OutputLines.{OutputLine}
 use Rattle.idn2_answers.specs.Transcript.{lines_output, has_refused, status_if, transcript, status_of, TableGiven}
+use Rattle.idn2_answers.specs.Transcript.{IsTableOf}
 use Rattle.registered_labels.specs.declared.labels.RegisteredFileFault.{RegisteredFileFault}
 use Rattle.registered_labels.specs.declared.labels.RegisteredFileFault.TheVariants as registers
 use Rattle.idn2_output.specs.declared.status.Status.{Status}
@@ -12,7 +13,7 @@ use Rattle.idn2_output.specs.declared.stop.Stop.{Stop}
 use Rattle.idn_text.specs.Lines.{Numbered}
 use Rattle.idn_text.specs.Reading.{Reading, HasRead, HasStopped}
 use Rattle.idn_text.specs.declared.lines.State.TheVariants.{Ended, Stopped}
-use Rattle.idn2_options.specs.Settings.{Settings, tells_causes}
+use Rattle.idn2_options.specs.Settings.{Settings}
 use Rattle.idn2_options.specs.declared.command_line.form.Form.{Form}
 use Rattle.idn2_answers.specs.Answers.{LineAnswer}
 use Rattle.idn2_refusals.specs.Explained.{Explained}
@@ -144,6 +145,20 @@ pub record Stops (job : Job) (start now : Reading) (old new : Held) (status : St
   pub closes : Closes why middle new
   pub answered : status ≡ closing_status (refusal_of why)
 
--- a run: the job is done, or it stopped
+-- the job is done, or it stopped
 abbrev pub Ends : Job → Reading → Reading → Held → Held → Status → Type 0
 Ends job start now old new status = Does job start now old new (Ok status) ⊎ Stops job start now old new status
+
+-- ---- a run by the text of a table
+
+-- memory ran out before a line was read: that is told, and nothing else
+pub record RunsOut (o : Settings) (start now : Reading) (old new : Held) (status : Status) : Type 0 where
+  pub by_table : reads_table o.mode ≡ true
+  pub unread : now ≡ start
+  pub told : TellsMemory old new status
+
+-- the job of the mode, by the table or the fault that the text gives; or memory ran out before that was known
+abbrev pub RunsBy : Settings → (text : List ℕ) → Reading → Reading → Held → Held → Status → Type 0
+RunsBy o text start now old new status =
+    ((given : TableGiven) × IsTableOf o text given × Ends (mode_job o given) start now old new status)
+    ⊎ RunsOut o start now old new status

@@ -1,5 +1,5 @@
 -- The variant-list theorem in one record, and that of jumps: what stands on the output of a run, line for line.
-use Rattle.std.specs.Prelude.{◌≡◌, ◌≢◌, ◌⊎◌, ℕ, false, List, [], ◌∷◌, ◌++◌, Option, Some, Ok, Err}
+use Rattle.std.specs.Prelude.{◌≡◌, ◌≢◌, ◌⊎◌, ℕ, false, true, List, [], ◌∷◌, ◌++◌, Option, Some, Ok, Err}
 use Rattle.std.specs.List.{concat, flat_map}
 use Rattle.std.specs.Io.KnownBytes.{Appends}
 use Rattle.idn_text.specs.Points.{AreScalarValues, utf8_of}
@@ -13,6 +13,7 @@ use Rattle.idn2_options.specs.declared.command_line.form.Form.{Form}
 use Rattle.idn2_options.specs.declared.command_line.form.Form.TheVariants.{Plain, Json}
 use Rattle.idn_text.specs.declared.refusal.Refusal.{Refusal}
 use Rattle.idn2_refusals.specs.Explained.{Explained, body_cause}
+use Rattle.idn2_answers.specs.Rulesets.{AnswersAsText}
 use Rattle.idn2_answers.specs.Transcript.{IsTableOf, explained_in, is_in_xml}
 use Rattle.idn2_options.specs.declared.command_line.mode.Mode.{Mode}
 use Rattle.idn2_options.specs.declared.command_line.mode.Mode.TheVariants.{Variants, Jump}
@@ -92,11 +93,16 @@ pub record ReadsNothing (start now : Reading) (status : Status) : Type 0 where
   pub not_clean : status ≢ Clean
   pub not_refused : status ≢ Refused
 
+-- of a ruleset in XML the table answers each label as the ruleset says
+abbrev pub AnswersAsItsText : Settings → List ℕ → TableValue → Type 0
+AnswersAsItsText o text table = is_in_xml o.notation text ≡ true → AnswersAsText o.properties text table
+
 -- the same by the text of a table. Lines spell one table at most, and what is printed is by that one. Of a ruleset in
--- XML it is by a table that says what the ruleset says, unless no line was read
+-- XML it is by a table that answers as the ruleset says, unless no line was read
 pub record PrintsByText (o : Settings) (text : List ℕ) (start now : Reading) (old new : Option (List ℕ))
     (status : Status) : Type 0 where
   pub spelled : (table : TableValue) → is_in_xml o.notation text ≡ false → IsTableOf o text (Ok table)
       → PrintsAnswers o table start now old new status
   pub said : ReadsNothing start now status
-      ⊎ ((table : TableValue) × IsTableOf o text (Ok table) × PrintsAnswers o table start now old new status)
+      ⊎ ((table : TableValue) × IsTableOf o text (Ok table) × AnswersAsItsText o text table
+      × PrintsAnswers o table start now old new status)

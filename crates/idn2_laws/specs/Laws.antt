@@ -5,6 +5,7 @@ use Rattle.idn_class.specs.declared.properties.Properties.{Properties}
 use Rattle.idn_text.specs.declared.refusal.Refusal.{Refusal}
 use Rattle.idn_text.specs.declared.refusal.Refusal.TheVariants.{NotInTable}
 use Rattle.idn_cause.specs.declared.cause.Cause.TheVariants.{Point}
+use Rattle.lgr_table.specs.Texts.{IsTableOfText}
 use Rattle.variant_table.specs.Entries.{TableValue}
 use Rattle.variant_table.specs.Gaps.{gaps_of}
 use Rattle.variant_table.specs.IdleTypes.{idle_types}
@@ -18,6 +19,7 @@ use Rattle.idn2_options.specs.Settings.{Settings}
 use Rattle.idn2_options.specs.declared.command_line.form.Form.TheVariants.{Plain, Json}
 use Rattle.idn2_refusals.specs.CauseWords.{tail_text}
 use Rattle.idn2_refusals.specs.Explained.{Unexplained, bad_byte, body_cause, table_cause}
+use Rattle.idn2_answers.specs.Rulesets.{AnswersAsText}
 use Rattle.idn2_answers.specs.Said.{Found, Idle, Counted}
 use Rattle.idn2_answers.specs.Transcript.{TableGiven, check_findings, output_line_in, statements, status_of, transcript}
 use Rattle.idn2_refusals.specs.Messages.{line_message, refused_message}
@@ -57,3 +59,9 @@ pub record FormsSayTheSame : Type 0 where
       → status_of (record o { form = Json }) given lines ≡ status_of (record o { form = Plain }) given lines
   pub silent : (o : Settings) (given : TableGiven) (lines : List Numbered) → o.form ≡ Json
       → messages_of (transcript o given lines) ≡ []
+
+-- under each table that a ruleset in XML says, labels are answered as the ruleset says (RFC 7940, sections 5 to 8)
+abbrev pub RulesetsAnswerAsTheySay : Type 0
+RulesetsAnswerAsTheySay =
+    (properties : Properties) (text : List ℕ) (table : TableValue) → IsTableOfText properties text table
+    → AnswersAsText properties text table

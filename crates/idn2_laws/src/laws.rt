@@ -2,6 +2,7 @@
 ghost use Rattle.std.specs.Prelude.{ℕ, List};
 ghost use Rattle.idn2_answers.specs.Answers.{LineAnswer};
 ghost use Rattle.idn2_laws.specs.Laws.{CausesAreTold, ConditionsAloneDiffer, FormsSayTheSame};
+ghost use Rattle.idn2_laws.specs.Laws.{RulesetsAnswerAsTheySay};
 ghost use Rattle.idn2_laws.specs.DispositionLaws.{BlockedBlocks, DispositionsAreTold, ReadingsDecide, RulesAloneDecide};
 ghost use Rattle.idn2_laws.specs.DemandLaws.{DemandsAreActions};
 ghost use Rattle.idn2_laws.specs.TypeExamples.{ChineseForms, OwnActionsFirst, UnclearVariants};
@@ -139,6 +140,11 @@ pub fn tables_are_read_back()
     ensures findings { FindingsAreReadBack }
     ensures faults { TableFaultsAreReadBack }
     ensures registered { RegisteredFaultsAreReadBack }
+{}
+
+/// Under each table that a ruleset in XML says, labels are answered as the ruleset says.
+pub fn rulesets_answer_as_they_say()
+    ensures { RulesetsAnswerAsTheySay }
 {}
 
 /// Worked examples hold of the definitions themselves.

@@ -19,7 +19,7 @@ use Rattle.lgr_text.specs.ActionNames.{called, each_once}
 use Rattle.lgr_text.specs.Records.{Action, Condition, Trigger, action}
 use Rattle.lgr_text.specs.declared.actions.Renamed.{Renamed}
 use Rattle.lgr_text.specs.declared.records.Action as held_action
-use Rattle.lgr_table.specs.Names.{asked}
+use Rattle.lgr_text.specs.Names.{asked}
 use Rattle.lgr_table.specs.Numbers.{Numbering, all_types, is_same}
 use Rattle.lgr_table.specs.Tables.{SayActions, SaysAction, called_condition, called_trigger, called_type}
 use Rattle.lgr_table.specs.declared.actions.TypeNames.{TypeNames}

@@ -8,7 +8,7 @@ use Rattle.label_patterns.specs.Places.{StandsAt}
 use Rattle.lgr_text.proofs.RepeatLemmas.{repeats-map}
 use Rattle.lgr_text.specs.PartMatches.{PartMatches, Place}
 use Rattle.lgr_text.specs.Records.{Class, Part, Literal, Any, Of, Start, End, Anchor, OfRule, Then, Choice, Times}
-use Rattle.lgr_table.specs.Names.{classes_of, rules_in}
+use Rattle.lgr_text.specs.Names.{classes_of, rules_in}
 
 -- its classes have the same code points, and the rules that it names match the same parts
 abbrev pub Agree : (Class → ℕ → Bool) → (Class → ℕ → Bool) → (List ℕ → ℕ → ℕ → Type 0) → (List ℕ → ℕ → ℕ → Type 0) → Part → Type 0

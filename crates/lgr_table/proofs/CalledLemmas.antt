@@ -18,8 +18,9 @@ use Rattle.ruleset_text.specs.Names.{number_of}
 use Rattle.ruleset_text.specs.WellFormed.{AreDefinitions}
 use Rattle.ruleset_text.specs.declared.entry_form.Mapped.{Mapped}
 use Rattle.lgr_text.specs.Records as lgr
-use Rattle.lgr_table.specs.Entries.{is_reflexive, may_be, reflexive_type, variant_of, variants_of}
-use Rattle.lgr_table.specs.Names.{asked}
+use Rattle.lgr_text.specs.Repertoire.{is_reflexive, may_be}
+use Rattle.lgr_table.specs.Entries.{reflexive_type, variant_of, variants_of}
+use Rattle.lgr_text.specs.Names.{asked}
 use Rattle.lgr_table.specs.Numbers.{Numbering, is_same, number_among, types_with}
 use Rattle.lgr_table.specs.Numbers as numbers
 use Rattle.lgr_table.specs.inner.EntrySteps.{PushesVariants}

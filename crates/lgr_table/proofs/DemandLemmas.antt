@@ -13,9 +13,10 @@ use Rattle.ruleset_text.specs.Definitions.{Definitions, Demand, type_names, with
 use Rattle.ruleset_text.specs.Names.{number_of}
 use Rattle.lgr_text.specs.Records.{Action, Condition, Ruleset, Trigger, action}
 use Rattle.lgr_text.specs.declared.records.Action as held_action
-use Rattle.lgr_table.specs.Names.{asked}
+use Rattle.lgr_text.specs.Names.{asked}
 use Rattle.lgr_table.specs.Numbers.{Numbering, all_types}
-use Rattle.lgr_table.specs.Tables.{SayDemands, SaysDemand, SayActions, acting, demanded, following, leading, makes_invalid, rule_alone}
+use Rattle.lgr_text.specs.Demands.{demanded, following, leading, makes_invalid, rule_alone}
+use Rattle.lgr_table.specs.Tables.{SayDemands, SaysDemand, SayActions, acting}
 use Rattle.lgr_table.specs.declared.actions.TypeNames.{TypeNames}
 use Rattle.lgr_table.specs.inner.Steps.{AddsAction, AddsActions, AddsDemand, AddsDemands, AreAmong, HaveDefined}
 use Rattle.lgr_table.specs.inner.TypeNames.{AreNamesOf, written}

@@ -5,8 +5,9 @@ use Rattle.std.proofs.lemmas.List.{append-nil, map-append}
 use Rattle.std.proofs.lemmas.List.Concat.{flat_map-append}
 use Rattle.std.proofs.lemmas.List.Elements.{All-append, All-nil, All-push, filter-append}
 use Rattle.lgr_text.specs.Records.{Entry, Ruleset}
-use Rattle.lgr_table.specs.Entries.{HasOneType, all_entries, entries_of, entry_with, kept_sources, may_be, sources}
-use Rattle.lgr_table.specs.Names.{asked_by}
+use Rattle.lgr_text.specs.Repertoire.{kept_sources, may_be, sources}
+use Rattle.lgr_table.specs.Entries.{HasOneType, all_entries, entries_of, entry_with}
+use Rattle.lgr_text.specs.Names.{asked_by}
 use Rattle.lgr_table.specs.Numbers.{Numbering}
 use Rattle.lgr_table.specs.inner.EntrySteps.{AddsEntry, AddsSources}
 use Rattle.lgr_table.specs.inner.Steps.{AddsEntries, AreAmong}

@@ -21,7 +21,7 @@ use Rattle.lgr_text.specs.PartMatches.{BeginsWith, IsOf, Matching, MatchesAround
 use Rattle.lgr_text.specs.Records.{Class, Listed, OfTag, OfProperty, OfClass, Joined, Complement, Part, Literal, Any, Of, Start, End, Anchor, OfRule, Then, Choice, Times}
 use Rattle.lgr_text.specs.declared.rule_error.RuleFault.{RuleFault}
 use Rattle.lgr_text.specs.declared.rule_error.RuleFault.TheVariants.{Undefined}
-use Rattle.lgr_table.specs.Names.{classes_of, rules_in}
+use Rattle.lgr_text.specs.Names.{classes_of, rules_in}
 use Rattle.lgr_table.proofs.AgreeLemmas.{agree-known, parts-agree}
 use Rattle.lgr_table.proofs.NumberLemmas.{number-stays}
 

@@ -2,7 +2,7 @@
 use Rattle.std.proofs.Common.{◌≡◌, ℕ, Bool, true, false, not, cond, ◌&&◌, ◌||◌, List, [], ◌∷◌, refl, sym, ap, ◌∙◌}
 use Rattle.std.specs.List.{filter, list_any}
 use Rattle.lgr_text.specs.Records as lgr
-use Rattle.lgr_table.specs.Entries.{may_be}
+use Rattle.lgr_text.specs.Repertoire.{may_be}
 use Rattle.lgr_table.specs.declared.untyped.Wanted.{Wanted}
 use Rattle.lgr_table.specs.inner.Wanted.{is_wanted, keeps_with}
 

@@ -16,8 +16,8 @@ use Rattle.label_patterns.specs.Sets.{is_in, is_in_span}
 use Rattle.ruleset_text.specs.Classes.{is_label_class}
 use Rattle.lgr_text.specs.CodePoints.{IsSpan}
 use Rattle.lgr_text.specs.Records.{Entry}
-use Rattle.lgr_table.specs.Entries.{kept_sources, may_be, sources}
-use Rattle.lgr_table.specs.Meanings.{IsKept}
+use Rattle.lgr_text.specs.Repertoire.{kept_sources, may_be, sources}
+use Rattle.lgr_text.specs.Meanings.{IsKept}
 use Rattle.lgr_table.specs.Tables.{may_stand}
 use Rattle.lgr_table.specs.inner.Points.{spans_of}
 

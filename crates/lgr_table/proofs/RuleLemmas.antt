@@ -20,9 +20,10 @@ use Rattle.lgr_text.specs.Records.{Definition, Entry, IsClass, IsRule, Part, fil
 use Rattle.lgr_text.specs.declared.records.Ruleset as held
 use Rattle.variant_table.specs.Entries as table
 use Rattle.variant_table.specs.Entries.{TableValue}
-use Rattle.lgr_table.specs.Entries.{all_entries, entries_of, entry_with, kept_sources}
-use Rattle.lgr_table.specs.Meanings.{AreMeaningsOf, IsKept, Matches, Meanings}
-use Rattle.lgr_table.specs.Names.{IsClassOf, IsRuleOf, all_classes, named_classes, named_rules}
+use Rattle.lgr_text.specs.Repertoire.{kept_sources}
+use Rattle.lgr_table.specs.Entries.{all_entries, entries_of, entry_with}
+use Rattle.lgr_text.specs.Meanings.{AreMeaningsOf, IsKept, Matches, Meanings}
+use Rattle.lgr_text.specs.Names.{IsClassOf, IsRuleOf, all_classes, named_classes, named_rules}
 use Rattle.lgr_table.specs.Numbers.{Numbering}
 use Rattle.lgr_table.specs.Tables.{IsOfSources, SayRules, SaysRule, may_stand}
 use Rattle.lgr_table.specs.inner.FaultSteps.{HasRulesOf}

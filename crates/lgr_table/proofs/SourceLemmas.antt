@@ -29,7 +29,8 @@ use Rattle.variant_table.specs.Forms.{entry_of, knows_all}
 use Rattle.variant_table.specs.Ranges.{range_size}
 use Rattle.variant_table.specs.Reading.{◌>>=◌, with_entries, with_form, with_form_of}
 use Rattle.variant_table.specs.declared.fault.EntryFault.{EntryFault}
-use Rattle.lgr_table.specs.Entries.{all_entries, entries_of, entry_with, kept_sources, may_be, sources}
+use Rattle.lgr_text.specs.Repertoire.{kept_sources, may_be, sources}
+use Rattle.lgr_table.specs.Entries.{all_entries, entries_of, entry_with}
 use Rattle.lgr_table.specs.Faults.{HasSourceTwice, IsFaultOfTable, LackRoom, all_sources}
 use Rattle.lgr_table.specs.Numbers.{Numbering}
 use Rattle.lgr_table.specs.declared.fault.TableError.{TableError}

@@ -13,10 +13,11 @@ use Rattle.variant_table.specs.declared.version.Version.TheVariants.{Three}
 use Rattle.variant_table.specs.Entries.{Entry, TableValue, empty_table}
 use Rattle.variant_table.specs.WellFormed.{IsTable}
 use Rattle.lgr_table.specs.Entries.{all_entries}
-use Rattle.lgr_table.specs.Meanings.{Meanings, RuleHolds}
-use Rattle.lgr_table.specs.Names.{IsRuleOf, asked, asked_rules}
+use Rattle.lgr_text.specs.Meanings.{Meanings, RuleHolds}
+use Rattle.lgr_text.specs.Names.{IsRuleOf, asked, asked_rules}
 use Rattle.lgr_table.specs.Numbers.{Numbering}
-use Rattle.lgr_table.specs.Tables.{IsOfSources, IsTableOf, SayActions, SayDemands, SayRules, acting, demanded, may_stand}
+use Rattle.lgr_text.specs.Demands.{demanded}
+use Rattle.lgr_table.specs.Tables.{IsOfSources, IsTableOf, SayActions, SayDemands, SayRules, acting, may_stand}
 use Rattle.lgr_table.specs.TableNames.{AreCalled, has_name, keeps_rule, names_with}
 use Rattle.lgr_table.specs.inner.RuleSteps.{HasNoRules}
 use Rattle.lgr_table.specs.inner.Steps.{AddsActions, AddsEntries, AddsRules, AddsTypes}

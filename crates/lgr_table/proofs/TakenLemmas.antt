@@ -16,7 +16,7 @@ use Rattle.lgr_text.specs.Known.{Known}
 use Rattle.lgr_text.specs.PartMatches.{BeginsWith, MatchesAsPart, SaysRule, name_fault, rule_named}
 use Rattle.lgr_text.specs.Records as lgr
 use Rattle.lgr_text.specs.Records.{Class, Definition, Entry, IsClass, IsRule, Meaning, Part}
-use Rattle.lgr_table.specs.Names.{all_classes, classes_in, named_classes, named_rules}
+use Rattle.lgr_text.specs.Names.{all_classes, classes_in, named_classes, named_rules}
 use Rattle.lgr_table.specs.inner.RuleSteps.{AddsMeaning, AddsPattern, AddsSet}
 use Rattle.lgr_table.proofs.GrowthLemmas.{Grows, IsFree, class-none, class-stays, first-none, free-stays, matches-stay, part-free, rule-found, rule-grows, says-stays, second-none, set-found, set-grows}
 use Rattle.lgr_table.proofs.NumberLemmas.{name-there, number-found, number-new, number-stays}

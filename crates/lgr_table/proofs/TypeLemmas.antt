@@ -32,7 +32,7 @@ same-refl (Some name) = (bytes_eq-Decides name name).1 refl
 
 -- ---- a place, or none
 
-is_some-position : {X : Type 0} (p : X → Bool) (xs : List X) → is_some (position p xs) ≡ list_any p xs
+pub is_some-position : {X : Type 0} (p : X → Bool) (xs : List X) → is_some (position p xs) ≡ list_any p xs
 is_some-position {X} p xs = by (list_any p xs) refl
   where
     by : (b : Bool) → list_any p xs ≡ b → is_some (position p xs) ≡ b

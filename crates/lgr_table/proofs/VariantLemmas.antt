@@ -11,7 +11,7 @@ use Rattle.std.specs.Option.{option_map}
 use Rattle.variant_table.specs.declared.fault.EntryFault.{EntryFault}
 use Rattle.lgr_text.specs.declared.records.Entry.{Entry}
 use Rattle.lgr_text.specs.declared.records.Variant.{Variant}
-use Rattle.lgr_table.specs.Entries.{is_reflexive}
+use Rattle.lgr_text.specs.Repertoire.{is_reflexive}
 use Rattle.lgr_table.specs.inner.FaultSteps.{TellsEntry, TellsReflexive, TellsRepeated, TellsVariants}
 use Rattle.lgr_table.specs.declared.fault.TableError.{TableError}
 use Rattle.lgr_table.specs.declared.fault.TableError.TheVariants.{Fault, Memory}

@@ -1,33 +1,14 @@
 -- The entries of a table, by those of a file (RFC 7940, section 5).
-use Rattle.std.specs.Prelude.{◌≡◌, ℕ, ◌≤◌, ◌&&◌, ◌||◌, Bool, not, Option, None, List, [], ◌∷◌, All, bytes_eq}
+use Rattle.std.specs.Prelude.{◌≡◌, ℕ, ◌≤◌, ◌&&◌, ◌||◌, Bool, not, Option, None, List, All}
 use Rattle.std.specs.Prelude.{filter, find, is_some, length, map, option_and_then}
-use Rattle.std.specs.List.{flat_map, list_all, list_any, range_with_len}
+use Rattle.std.specs.List.{flat_map, list_any}
 use Rattle.std.specs.Option.{option_map}
 use Rattle.lgr_text.specs.Records as lgr
-use Rattle.lgr_text.specs.Records.{Range, Sequence, Source}
+use Rattle.lgr_text.specs.Repertoire.{has_types, is_reflexive, kept_sources, may_be}
 use Rattle.lgr_table.specs.Numbers.{Numbering, numbered_condition, type_number}
 use Rattle.variant_table.specs.Entries.{Entry, Variant}
-use Rattle.variant_table.specs.Ranges.{range_size}
-
--- ---- its sources
-
--- a range is an entry for each code point in it (5.1)
-abbrev pub sources : Source → List (List ℕ)
-sources (Sequence points) = points ∷ []
-sources (Range span) = map (λ c. c ∷ []) (range_with_len span.first (range_size span.first span.last))
-
--- each code point is one that a table may hold. No label has another one, so what has is left out
-abbrev pub may_be : (ℕ → Bool) → List ℕ → Bool
-may_be may points = list_all may points
-
-abbrev pub kept_sources : (ℕ → Bool) → lgr.Entry → List (List ℕ)
-kept_sources may e = filter (may_be may) (sources e.source)
 
 -- ---- its variants
-
--- a variant that is its source is reflexive: its type is that of the source (5.3.4)
-abbrev pub is_reflexive : List ℕ → lgr.Variant → Bool
-is_reflexive source v = bytes_eq v.points source
 
 -- the types and conditions go by their numbers
 abbrev pub variant_of : Numbering → lgr.Variant → Variant
@@ -72,9 +53,6 @@ HasOneType e source =
 
 abbrev pub AreOfOneType : (ℕ → Bool) → List lgr.Entry → Type 0
 AreOfOneType may entries = All (λ e. All (HasOneType e) (kept_sources may e)) entries
-
-abbrev pub has_types : List lgr.Entry → Bool
-has_types entries = list_any (λ e. list_any (λ v. is_some v.type_name) e.variants) entries
 
 -- a variant has a type, or none; or it has none and is its source
 abbrev pub has_type : List ℕ → lgr.Variant → Bool

@@ -21,8 +21,9 @@ use Rattle.lgr_text.specs.declared.records.Ruleset.{Ruleset}
 use Rattle.lgr_text.specs.declared.records.Variant.{Variant}
 use Rattle.lgr_text.specs.declared.rule_error.RuleFault.{RuleFault}
 use Rattle.lgr_text.specs.declared.rule_error.RuleFault.TheVariants as rule
-use Rattle.lgr_table.specs.Entries.{HasOneType, all_entries, entry_with, is_reflexive, may_be, needs_type, sources}
-use Rattle.lgr_table.specs.Names.{IsRuleOf}
+use Rattle.lgr_text.specs.Repertoire.{is_reflexive, may_be, sources}
+use Rattle.lgr_table.specs.Entries.{HasOneType, all_entries, entry_with, needs_type}
+use Rattle.lgr_text.specs.Names.{IsRuleOf}
 use Rattle.lgr_table.specs.Numbers.{Numbering, types_of, types_with}
 use Rattle.lgr_table.specs.declared.fault.TableError.{TableError}
 use Rattle.lgr_table.specs.declared.fault.TableError.TheVariants.{Fault, Memory}

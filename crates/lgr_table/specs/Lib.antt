@@ -1,9 +1,7 @@
 -- The definitions that contracts cite.
 pub mod Numbers
 pub mod Entries
-pub mod Names
 pub mod TableNames
-pub mod Meanings
 pub mod Tables
 pub mod Faults
 pub mod Texts

@@ -1,8 +1,7 @@
 -- Which table of version 3 says what a file says (RFC 7940).
-use Rattle.std.specs.Prelude.{◌≡◌, ℕ, ◌<◌, ◌≤◌, ◌↔◌, Bool, IsTrue, not, if◌then◌else◌, List, [], ◌∷◌, ◌++◌, Option}
-use Rattle.std.specs.Prelude.{Some, None, All, AllPairs, Contains, IsSome, bytes_eq, filter, is_some, length, map}
+use Rattle.std.specs.Prelude.{◌≡◌, ℕ, ◌<◌, ◌≤◌, ◌↔◌, Bool, IsTrue, not, List, [], ◌∷◌, ◌++◌}
+use Rattle.std.specs.Prelude.{Some, None, All, AllPairs, Contains, IsSome, filter, is_some, length, map}
 use Rattle.std.specs.Prelude.{slice_index_or, ◌≢◌, unwrap_or}
-use Rattle.std.specs.List.{filter_map}
 use Rattle.std.specs.Option.{option_map}
 use Rattle.idn_class.specs.declared.properties.Properties.{Properties}
 use Rattle.label_patterns.specs.Laws.{seen}
@@ -11,10 +10,11 @@ use Rattle.label_patterns.specs.declared.condition.ConditionKind.TheVariants.{Un
 use Rattle.label_patterns.specs.Patterns.{Anchor, Pattern}
 use Rattle.label_patterns.specs.Rules.{Holds}
 use Rattle.lgr_text.specs.ActionNames.{each_once}
+use Rattle.lgr_text.specs.Demands.{demanded, following, leading, rule_alone}
 use Rattle.lgr_text.specs.Records.{Action, Condition, IsRule, Part, Ruleset, Trigger}
 use Rattle.lgr_table.specs.Entries.{AreOfOneType, all_entries, needs_type}
-use Rattle.lgr_table.specs.Meanings.{AreMeaningsOf, Meanings, RuleHolds}
-use Rattle.lgr_table.specs.Names.{HasItsNames}
+use Rattle.lgr_text.specs.Meanings.{AreMeaningsOf, Meanings, RuleHolds}
+use Rattle.lgr_text.specs.Names.{HasItsNames}
 use Rattle.lgr_table.specs.Numbers.{Numbering, all_types, type_number, types_of}
 use Rattle.lgr_table.specs.TableNames.{AreTableNames, names_with}
 use Rattle.ruleset_text.specs.declared.named_condition.NamedCondition.{NamedCondition}
@@ -24,7 +24,6 @@ use Rattle.ruleset_text.specs.Definitions.{Definitions, Demand, type_name}
 use Rattle.ruleset_text.specs.declared.definition.DemandKind.{DemandKind}
 use Rattle.ruleset_text.specs.declared.definition.DemandKind.TheVariants.{Always, Never}
 use Rattle.ruleset_text.specs.Names.{number_of}
-use Rattle.variant_dispositions.specs.declared.disposition.Disposition.TheVariants.{Invalid}
 use Rattle.variant_table.specs.declared.version.Version.TheVariants.{Three}
 use Rattle.variant_table.specs.Entries.{Entry, TableValue}
 use Rattle.variant_table.specs.WellFormed.{IsTable}
@@ -88,27 +87,8 @@ SayActions n d [] (b ∷ named) = ⊥
 SayActions n d (a ∷ actions) [] = ⊥
 SayActions n d (a ∷ actions) (b ∷ named) = SaysAction n d a b × SayActions n d actions named
 
--- ---- demands: those of its actions that make labels invalid by a rule alone, before the first that doesn't make them
--- invalid. Which of such actions is triggered makes no difference (7.4)
-
-abbrev pub makes_invalid : Action → Bool
-makes_invalid a = bytes_eq a.disposition (disposition_word Invalid)
-
--- those before the first that doesn't, and the others
-abbrev pub leading : List Action → List Action
-leading [] = []
-leading (a ∷ actions) = if makes_invalid a then a ∷ leading actions else []
-
-abbrev pub following : List Action → List Action
-following [] = []
-following (a ∷ actions) = if makes_invalid a then following actions else a ∷ actions
-
--- the condition of an action that no type triggers
-abbrev pub rule_alone : Action → Option Condition
-rule_alone a = if is_some a.trigger then None else a.condition
-
-abbrev pub demanded : List Action → List Condition
-demanded actions = filter_map rule_alone (leading actions)
+-- ---- demands. The other actions follow them: which of those that make labels invalid is triggered makes no
+-- difference (7.4)
 
 -- those that are no demands
 abbrev pub acting : List Action → List Action

@@ -57,15 +57,17 @@ pub record HasTooMuch (text : List ℕ) (e : TableError) : Type 0 where
   pub line : ℕ
   pub told : e ≡ error.Fault Limit line
 
--- the text says a ruleset, which has this fault, by some properties. Which lines its elements have isn't said
-pub record SaysFaulty (text : List ℕ) (e : TableError) : Type 0 where
+-- the text gives no ruleset: memory was refused; or it is no document, or one that says none or has too much in an
+-- element
+abbrev pub HasNoRuleset : List ℕ → TableError → Type 0
+HasNoRuleset text e = (e ≡ error.Memory) ⊎ (IsNoDocument text e ⊎ (SaysNoRuleset text e ⊎ HasTooMuch text e))
+
+-- the text says a ruleset, which has this fault. Which lines its elements have isn't said
+pub record SaysFaulty (properties : Properties) (text : List ℕ) (e : TableError) : Type 0 where
   pub ruleset_ : held.Ruleset
   pub said : SaysRuleset text (file ruleset_)
-  pub properties : Properties
   pub told : IsFaultOfTable (may_stand properties) ruleset_ e
 
--- the error is told of the text: memory was refused; or it is no document, or one that says no ruleset or has too much
--- in an element; or it says a ruleset that has a fault
-abbrev pub IsToldOf : List ℕ → TableError → Type 0
-IsToldOf text e =
-    (e ≡ error.Memory) ⊎ (IsNoDocument text e ⊎ (SaysNoRuleset text e ⊎ (HasTooMuch text e ⊎ SaysFaulty text e)))
+-- the error is told of the text
+abbrev pub IsToldOf : Properties → List ℕ → TableError → Type 0
+IsToldOf properties text e = HasNoRuleset text e ⊎ SaysFaulty properties text e

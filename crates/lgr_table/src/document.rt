@@ -4,12 +4,13 @@ ghost use Rattle.lgr_text.specs.Documents.{IsSaidBy};
 ghost use Rattle.lgr_text.specs.Records.{file};
 ghost use Rattle.lgr_text.specs.WellFormed.{IsWellFormedRuleset};
 ghost use Rattle.lgr_table.specs.Texts as texts;
-ghost use Rattle.lgr_table.specs.Texts.{IsTableOfText, IsToldOf, SaysRuleset};
+ghost use Rattle.lgr_table.specs.Texts.{HasNoRuleset, IsTableOfText, IsToldOf, SaysRuleset};
 ghost use Rattle.xml_text.specs.Files.{IsDocument};
 ghost use Rattle.xml_text.specs.Tokens.{Token};
 
 use crate::fault::{TableError, TableFault};
 use crate::table::table_of;
+use bumpalo::Bump;
 use idn_class::Properties;
 use lgr_text::{ReadError, Ruleset, read_ruleset};
 use std::alloc::Global;
@@ -20,7 +21,7 @@ use xml_text::{DocumentError, read_document};
 ///
 /// # Errors
 /// `Syntax` is told of a text that is no document, or that says no ruleset; `Limit`, on line 1, of one of more than
-/// 64 MiB, and of one with an element that has too many others in it. Else the first fault of the ruleset, as by
+/// 64 MiB, and of one with an element that has too many others in it. Else a fault of the ruleset, as by
 /// `table_of`.
 pub fn table_of_text(
     alloc: Global,
@@ -28,7 +29,7 @@ pub fn table_of_text(
     text: &[u8],
 ) -> Result<Table, TableError>
     ensures table { IfOk result (IsTableOfText properties text.now) }
-    ensures fault { IfErr result (IsToldOf text.now) }
+    ensures fault { IfErr result (IsToldOf properties text.now) }
 {
     let ruleset = ruleset_of(alloc, text)?;
     table_of(alloc, properties, &ruleset)
@@ -38,9 +39,10 @@ pub fn table_of_text(
 fn ruleset_of(alloc: Global, text: &[u8]) -> Result<Ruleset, TableError>
     ensures says { IfOk result (λ r. SaysRuleset text.now (file r)) }
     ensures well_formed { IfOk result (λ r. IsWellFormedRuleset (file r)) }
-    ensures fault { IfErr result (IsToldOf text.now) }
+    ensures fault { IfErr result (HasNoRuleset text.now) }
 {
-    match read_document(alloc, text) {
+    let arena = Bump::new(alloc);
+    match read_document(alloc, &arena, text) {
         Ok(tokens) => match read_ruleset(alloc, &tokens) {
             Ok(ruleset) => Ok(ruleset),
             Err(error) => Err(of_read_error(error)),
@@ -65,7 +67,7 @@ fn of_document_error(error: DocumentError) -> TableError
 /// What is told of a document that says no ruleset.
 fn of_read_error(error: ReadError) -> TableError
     ensures { (text : List ℕ) (tokens : List Token) → IsDocument text tokens →
-        IsSaidBy tokens (Err error) → IsToldOf text result }
+        IsSaidBy tokens (Err error) → HasNoRuleset text result }
 {
     match error {
         ReadError::Wrong(line) => TableFault::Syntax.on(line),

@@ -7,9 +7,9 @@ ghost use Rattle.lgr_text.specs.Records.{file};
 ghost use Rattle.lgr_text.specs.Known.{HaveSpans};
 ghost use Rattle.lgr_text.specs.declared.records.Entry as held_entry;
 ghost use Rattle.lgr_text.specs.declared.records.Ruleset as held;
-ghost use Rattle.lgr_table.specs.Entries as words;
+ghost use Rattle.lgr_text.specs.Repertoire.{sources};
 ghost use Rattle.lgr_table.specs.Faults.{IsFaultOfTable, IsSameVariant, StandsEarlier, conditions, given};
-ghost use Rattle.lgr_table.specs.Names.{asked, asked_by};
+ghost use Rattle.lgr_text.specs.Names.{asked, asked_by};
 ghost use Rattle.lgr_table.specs.Tables.{may_stand};
 ghost use Rattle.lgr_table.specs.inner.EntrySteps.{AddsEntry, AddsSources};
 ghost use Rattle.lgr_table.specs.inner.FaultSteps.{AreAllIn, HasEntriesOf, HasRulesOf, TellsEntry, TellsRepeated};
@@ -111,10 +111,10 @@ fn add_sources(
     requires rules { length builder.old.definitions.rule_names ≡ length numbers.now.rules }
     ensures added { let e = records.entry entry.now in
         OnOk result (AddsSources (may_stand builder.old.definitions.properties) numbers.now
-        e (words.sources e.source) builder.old builder.new) }
+        e (sources e.source) builder.old builder.new) }
     ensures fault { let e = records.entry entry.now in
         IfErr result (TellsSources (may_stand builder.old.definitions.properties) numbers.now
-        entry.now (words.sources e.source) builder.old) }
+        entry.now (sources e.source) builder.old) }
 {
     match &entry.source {
         Source::Sequence(points) => add_source(alloc, builder, numbers, entry, points),
@@ -133,9 +133,9 @@ fn add_range(
     requires types { length builder.old.definitions.types ≡ length numbers.now.types }
     requires rules { length builder.old.definitions.rule_names ≡ length numbers.now.rules }
     ensures added { OnOk result (AddsSources (may_stand builder.old.definitions.properties) numbers.now
-        (records.entry entry.now) (words.sources (records.Range span)) builder.old builder.new) }
+        (records.entry entry.now) (sources (records.Range span)) builder.old builder.new) }
     ensures fault { IfErr result (TellsSources (may_stand builder.old.definitions.properties) numbers.now
-        entry.now (words.sources (records.Range span)) builder.old) }
+        entry.now (sources (records.Range span)) builder.old) }
 {
     if span.last < span.first {
         return Ok(());

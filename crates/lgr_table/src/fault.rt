@@ -92,7 +92,8 @@ impl TableError {
     {
         match fault {
             DefinitionFault::Limit => TableFault::Limit.on(line),
-            // Never but for lack of memory: it has its form, its name is new, and what it names is defined.
+            // Only for lack of memory: its pattern has the form of the notation (`pattern_of_rule`), its name is new, and
+            // what it names is defined. Of the last two no clause says it.
             _ => TableError::Memory,
         }
     }

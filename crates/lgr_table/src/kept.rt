@@ -1,7 +1,7 @@
 //! Which sources and variants of a file a table keeps.
 ghost use Rattle.std.specs.Prelude.{◌≡◌, IfOk};
 ghost use Rattle.lgr_text.specs.Records.{variant as variant_of};
-ghost use Rattle.lgr_table.specs.Entries as words;
+ghost use Rattle.lgr_text.specs.Repertoire as words;
 ghost use Rattle.lgr_table.specs.Tables.{may_stand as may_stand_by};
 
 use idn_class::Properties;

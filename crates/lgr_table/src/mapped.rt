@@ -3,6 +3,7 @@ ghost use Rattle.std.specs.Prelude.{◌≡◌, ◌<◌, ◌||◌, ◌∷◌, [],
 ghost use Rattle.std.specs.Option.{ForSome, option_map};
 ghost use Rattle.lgr_text.specs.Records as records;
 ghost use Rattle.lgr_table.specs.Entries as words;
+ghost use Rattle.lgr_text.specs.Repertoire.{is_reflexive};
 ghost use Rattle.lgr_table.specs.Numbers.{numbered_condition};
 ghost use Rattle.lgr_table.specs.Tables.{may_stand};
 ghost use Rattle.lgr_table.specs.inner.EntrySteps.{PushesVariants};
@@ -85,9 +86,9 @@ fn check_points(entry: &Entry) -> Result<(), TableError>
 
 /// Whether a variant that is the source was found, with this one, which isn't a second one and has no condition.
 fn check_variant(source: &[u32], variant: &Variant, found: bool) -> Result<bool, TableError>
-    ensures found { IfOk result (λ now. now ≡ (found || words.is_reflexive source.now (records.variant variant.now))) }
-    ensures alone { OnOk result (words.is_reflexive source.now (records.variant variant.now) ≡ true → found ≡ false) }
-    ensures bare { OnOk result (words.is_reflexive source.now (records.variant variant.now) ≡ true →
+    ensures found { IfOk result (λ now. now ≡ (found || is_reflexive source.now (records.variant variant.now))) }
+    ensures alone { OnOk result (is_reflexive source.now (records.variant variant.now) ≡ true → found ≡ false) }
+    ensures bare { OnOk result (is_reflexive source.now (records.variant variant.now) ≡ true →
         (records.variant variant.now).condition ≡ None) }
     ensures fault { IfErr result (TellsReflexive source.now variant.now found) }
 {

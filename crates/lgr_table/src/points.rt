@@ -2,8 +2,8 @@
 ghost use Rattle.std.specs.Prelude.{◌≡◌, ◌↔◌, ◌++◌, ◌∷◌, [], ℕ, IsTrue, IfOk, OnOk, map};
 ghost use Rattle.label_patterns.specs.Sets.{is_in};
 ghost use Rattle.lgr_text.specs.Records.{Range, entry as entry_of, source as source_of};
-ghost use Rattle.lgr_table.specs.Entries.{sources};
-ghost use Rattle.lgr_table.specs.Meanings.{IsKept};
+ghost use Rattle.lgr_text.specs.Repertoire.{sources};
+ghost use Rattle.lgr_text.specs.Meanings.{IsKept};
 ghost use Rattle.lgr_table.specs.Tables.{may_stand};
 ghost use Rattle.lgr_table.specs.inner.Points.{spans_of};
 

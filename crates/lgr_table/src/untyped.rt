@@ -2,7 +2,8 @@
 ghost use Rattle.std.specs.Prelude.{◌≡◌, ◌∷◌, [], is_some, map, IfOk};
 ghost use Rattle.std.specs.List.{list_any};
 ghost use Rattle.lgr_text.specs.Records as records;
-ghost use Rattle.lgr_table.specs.Entries.{has_types as have_types_in, keeps, needs_type, sources};
+ghost use Rattle.lgr_text.specs.Repertoire.{has_types as have_types_in, sources};
+ghost use Rattle.lgr_table.specs.Entries.{keeps, needs_type};
 ghost use Rattle.lgr_table.specs.Tables.{may_stand};
 ghost use Rattle.lgr_table.specs.inner.Wanted.{is_wanted, keeps_in, keeps_with};
 

@@ -1,7 +1,7 @@
 -- Branches of a rule, and what stands before or after each.
 use Rattle.std.proofs.Common.{◌≡◌, ℕ, ◌≤◌, ◌⊎◌, inl, inr, Bool, true, false, ◌&&◌, List, [], ◌∷◌, ◌++◌, length, map, Option, None, refl, ap, sym, subst, ◌∙◌, arith}
 use Rattle.std.specs.Prelude.{◌↔◌}
-use Rattle.std.specs.List.{AllByRecursion, list_all}
+use Rattle.std.specs.List.{AllByRecursion, list_all, list_any}
 use Rattle.label_patterns.specs.declared.span.Span.{Span}
 use Rattle.label_patterns.specs.Laws.{seen}
 use Rattle.label_patterns.specs.Matches.{HasItsSets, Seen}
@@ -9,13 +9,15 @@ use Rattle.label_patterns.specs.Patterns.{Pattern, Point, Set, Any, Start, End, 
 use Rattle.label_patterns.specs.Rules.{is_context_rule, Holds, HoldsAs, HoldsInOne}
 use Rattle.ruleset_text.specs.Names.{number_of}
 use Rattle.lgr_text.specs.Known.{Known}
-use Rattle.lgr_text.specs.PartMatches.{has_anchor, is_named, rule_named, BeginsWith, MatchesAround, MatchesAsPart, Matching, Place, SaysRule}
+use Rattle.lgr_text.specs.LabelEnds.{ends_label}
+use Rattle.lgr_text.specs.PartMatches.{has_anchor, is_named, rule_named, then_fault, BeginsWith, MatchesAround, MatchesAsPart, Matching, Place, SaysRule}
 use Rattle.lgr_text.specs.Records as records
 use Rattle.lgr_text.specs.Records.{Part, Choice, OfRule}
 use Rattle.lgr_text.specs.inner.Branches.{followed, in_choice, joined, preceded, BranchesMatch, HasBranches, HaveBranches, MakesBranches}
-use Rattle.lgr_text.specs.inner.Items.{anchors, in_sequence, is_item, HasShape, HaveSets, ItemsMatch}
+use Rattle.lgr_text.specs.inner.Items.{anchors, has_end, in_sequence, is_item, Appends, Follows, HasShape, HaveSets, ItemsMatch}
 use Rattle.lgr_text.proofs.ItemLemmas.{items-join, items-split, one-item}
-use Rattle.lgr_text.proofs.PartLemmas.{shape-after, shape-before, AppendsPart, begins-so, begins-too}
+use Rattle.lgr_text.proofs.PartLemmas.{parts-apart, shape-after, shape-before, begins-so, begins-too}
+use Rattle.lgr_text.proofs.PlaceLemmas.{not-so}
 use Rattle.lgr_text.proofs.RowLemmas.{all-branches, anchored-rule, choice-around, choice-is, context-rows, named-branches, no-anchor-rule, rows-have, rows-place, HasRows}
 use Rattle.lgr_text.proofs.RuleLemmas.{both-left, both-right, context-row, place}
 use Rattle.lgr_text.proofs.SetNumberLemmas.{begins-length, have-join, have-more, rule-has, sequence-has}
@@ -157,7 +159,7 @@ after-rows s at items (row ∷ rows) i j =
 
 -- without an anchor
 pub plain-made : (known : Known) (rule : Part) (first last : List (List Span)) (items : List Pattern) (tree : Pattern)
-    → tree ≡ in_sequence items → AppendsPart known first last [] items rule → MakesRule known false first last tree rule
+    → tree ≡ in_sequence items → Appends known first last [] items rule → MakesRule known false first last tree rule
 plain-made known rule first last items tree is appends = record {
   kept = appends.kept;
   row = appends.added;
@@ -179,7 +181,7 @@ anchor-made known sets = record {
   row = Anchor ∷ [];
   others = [];
   is = refl;
-  shapes = (record { flat = refl; one = refl }, tt);
+  shapes = (record { flat = refl; one = refl; forms = (tt, tt); placed = refl }, tt);
   known = ((tt, tt), tt);
   match_them = λ all label at i j begins of.
       let same = one-item (seen all label) at Anchor i j in (
@@ -216,16 +218,16 @@ choice-made known p q first middle last left right lower upper = record {
 
 -- of two parts, the second of which has the anchor
 pub preceded-made : (known : Known) (p q : Part) (first middle last : List (List Span)) (items : List Pattern) (tree : Pattern)
-    → AppendsPart known first middle [] items p → MakesRule known true middle last tree q
+    → then_fault known p q ≡ None → Appends known first middle [] items p → MakesRule known true middle last tree q
     → MakesRule known true first last (preceded items tree) (records.Then p q)
-preceded-made known p q first middle last items tree before inner = record {
+preceded-made known p q first middle last items tree sound before inner = record {
   kept = begins-too last middle first inner.kept before.kept;
   row = items ++ inner.row;
   others = map (λ row. items ++ row) inner.others;
   is = ap (preceded items) inner.is
       ∙ each-row (preceded items) (λ row. items ++ row) inner.row inner.others (λ r s. refl) (preceded-row items) inner.shapes;
   shapes = all-map (HasShape true) (HasShape true) (λ row. items ++ row) (inner.row ∷ inner.others)
-      (λ row shape. shape-before true items row plain shape) inner.shapes;
+      (λ row shape. shape-before items row plain shape no_end) inner.shapes;
   known = all-map (HaveSets (length last)) (HaveSets (length last)) (λ row. items ++ row) (inner.row ∷ inner.others)
       (λ row have. have-join items row (length last) have_items have) inner.known;
   match_them = λ all label at i j begins of.
@@ -248,38 +250,42 @@ preceded-made known p q first middle last items tree before inner = record {
     plain : HasShape false items
     plain = subst (HasShape false) (sym before.is) before.shape
 
+    no_end : list_any has_end items ≡ false
+    no_end = not-so (list_any has_end items) (ends_label (rule_named known) p) (λ h. before.end (ap (list_any has_end) (sym before.is) ∙ h))
+        (parts-apart known p q sound).0
+
     have_items : HaveSets (length last) items
     have_items = have-more items (length middle) (length last) (begins-length last middle inner.kept)
         (subst (HaveSets (length middle)) (sym before.is) before.known)
 
--- and the first of which has it
+-- and the first of which has it, so that the items of the second follow the anchor
 pub followed-made : (known : Known) (p q : Part) (first middle last : List (List Span)) (items : List Pattern) (tree : Pattern)
-    → MakesRule known true first middle tree p → AppendsPart known middle last [] items q
+    → MakesRule known true first middle tree p → Follows known middle last [] items q
     → MakesRule known true first last (followed items tree) (records.Then p q)
 followed-made known p q first middle last items tree inner after = record {
   kept = begins-too last middle first after.kept inner.kept;
-  row = inner.row ++ items;
-  others = map (λ row. row ++ items) inner.others;
-  is = ap (followed items) inner.is
-      ∙ each-row (followed items) (λ row. row ++ items) inner.row inner.others (λ r s. refl) (followed-row items) inner.shapes;
-  shapes = all-map (HasShape true) (HasShape true) (λ row. row ++ items) (inner.row ∷ inner.others)
-      (λ row shape. shape-after true row items shape (subst (HasShape false) (sym after.is) after.shape)) inner.shapes;
-  known = all-map (HaveSets (length last)) (HaveSets (length last)) (λ row. row ++ items) (inner.row ∷ inner.others)
-      (λ row have. have-join row items (length last) have (subst (HaveSets (length last)) (sym after.is) after.known))
+  row = inner.row ++ after.added;
+  others = map (λ row. row ++ after.added) inner.others;
+  is = ap (λ ps. followed ps tree) after.is ∙ ap (followed after.added) inner.is
+      ∙ each-row (followed after.added) (λ row. row ++ after.added) inner.row inner.others (λ r s. refl) (followed-row after.added) inner.shapes;
+  shapes = all-map (HasShape true) (HasShape true) (λ row. row ++ after.added) (inner.row ∷ inner.others)
+      (λ row shape. shape-after row after.added shape after.flat after.one after.forms after.after) inner.shapes;
+  known = all-map (HaveSets (length last)) (HaveSets (length last)) (λ row. row ++ after.added) (inner.row ∷ inner.others)
+      (λ row have. have-join row after.added (length last) have after.known)
       (sets-last (inner.row ∷ inner.others) (length middle) (length last) (begins-length last middle after.kept) inner.known);
   match_them = λ all label at i j begins of.
       let s = seen all label in
       let lower = begins-too all last middle begins after.kept in
-      let rows = after-rows s at items (inner.row ∷ inner.others) i j in (
+      let rows = after-rows s at after.added (inner.row ∷ inner.others) i j in (
         λ h. (let both = rows.0 h in (
           both.0,
           (inner.match_them all label at i both.0 lower of).0 both.1,
-          (after.match_them all label at both.0 j begins of).0 (subst (λ ps. ItemsMatch s at ps both.0 j) after.is both.2),
+          (after.match_them all label at both.0 j begins of).0 both.2,
         )),
         λ h. rows.1 (
           h.0,
           (inner.match_them all label at i h.0 lower of).1 h.1,
-          subst (λ ps. ItemsMatch s at ps h.0 j) (sym after.is) ((after.match_them all label at h.0 j begins of).1 h.2),
+          (after.match_them all label at h.0 j begins of).1 h.2,
         ),
       );
 }

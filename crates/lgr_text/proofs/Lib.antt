@@ -18,6 +18,7 @@ pub mod OneFormLemmas
 pub mod OrderLemmas
 pub mod PartLemmas
 pub mod PassLemmas
+pub mod PlaceLemmas
 pub mod PropertyLemmas
 pub mod RepeatLemmas
 pub mod RowLemmas
@@ -28,5 +29,6 @@ pub mod SetNumberLemmas
 pub mod SortedLemmas
 pub mod SpanLemmas
 pub mod TextLemmas
+pub mod TurnLemmas
 pub mod WellFormedLemmas
 pub mod WordLemmas

@@ -42,3 +42,7 @@ pub repeats-rounds : (R : ℕ → ℕ → Type 0) (n i j : ℕ) → Repeats R n 
 repeats-rounds R zero i j h = subst (λ m. Rounds R i m) (sym h) no_round
 repeats-rounds R (suc n) i j h =
     let last = repeats-less R n i j h in one_more last.0 j (repeats-rounds R n i last.0 last.1) last.2
+
+pub rounds-map : (R S : ℕ → ℕ → Type 0) → ((i j : ℕ) → R i j → S i j) → (i j : ℕ) → Rounds R i j → Rounds S i j
+rounds-map R S f i _ no_round = no_round
+rounds-map R S f i _ (one_more k j rounds step) = one_more k j (rounds-map R S f i k rounds) (f k j step)

@@ -107,7 +107,7 @@ all-branches row (next ∷ rows) h = ap (λ l. in_sequence row ∷ l) (all-branc
 -- ---- a rule that is named
 
 pub named-branches : (rules : List Pattern) (k : ℕ) → HaveBranches rules → HasBranches (get_or rules k Anchor)
-named-branches [] k have = record { anchored = true; rows = (Anchor ∷ []) ∷ []; is = refl; shapes = (record { flat = refl; one = refl }, tt) }
+named-branches [] k have = record { anchored = true; rows = (Anchor ∷ []) ∷ []; is = refl; shapes = (record { flat = refl; one = refl; forms = (tt, tt); placed = refl }, tt) }
 named-branches (p ∷ rules) zero have = have.0
 named-branches (p ∷ rules) (suc k) have = named-branches rules k have.1
 

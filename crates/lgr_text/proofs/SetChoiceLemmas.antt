@@ -1,7 +1,7 @@
 -- Choices between sets, each with a part of the spans.
 use Rattle.std.proofs.Common.{◌≡◌, ℕ, ◌<◌, inl, inr, ◌⊎◌, Bool, true, false, ◌||◌, List, [], ◌∷◌, ◌++◌, length, get_or, None, refl, ap, sym, subst, ◌∙◌, append_assoc}
 use Rattle.std.specs.Prelude.{◌↔◌, slice_index}
-use Rattle.std.specs.List.{AllByRecursion}
+use Rattle.std.specs.List.{AllByRecursion, list_all}
 use Rattle.std.proofs.lemmas.List.{append-nil, get_or_append_left}
 use Rattle.std.proofs.lemmas.List.Folds.{list_any-append}
 use Rattle.std.proofs.Math.Bool.{or-true}
@@ -10,10 +10,14 @@ use Rattle.label_patterns.specs.Laws.{seen}
 use Rattle.label_patterns.specs.Matches.{Matches, MatchesOne, Seen}
 use Rattle.label_patterns.specs.Patterns.{Pattern, Point, Set, Any, Group, Either}
 use Rattle.label_patterns.specs.Sets.{is_in, is_in_span, Rise}
+use Rattle.ruleset_text.specs.Grammar.{Is, Atom, Whole}
+use Rattle.ruleset_text.specs.Rules.{has as has_sign}
+use Rattle.ruleset_text.specs.Signs as sign
 use Rattle.lgr_text.specs.PartMatches.{BeginsWith}
-use Rattle.lgr_text.specs.inner.Items.{as_atom, AddsChoice, FitsLine, HasShape}
+use Rattle.lgr_text.specs.inner.Items.{anchors, as_atom, has_end, has_start, is_item, AddsChoice, FitsLine, HasShape, IsFree}
 use Rattle.lgr_text.proofs.ItemLemmas.{atom-is, sequence-is}
-use Rattle.lgr_text.proofs.PartLemmas.{begins-too}
+use Rattle.lgr_text.proofs.PartLemmas.{begins-too, free-shape}
+use Rattle.lgr_text.proofs.PlaceLemmas.{any-one, atom-branch, either-free, grouped-form, grouped-free, item-whole}
 use Rattle.lgr_text.proofs.SetNumberLemmas.{atom-has, begins-length, sets-more}
 
 -- ---- parts of lists
@@ -53,6 +57,8 @@ set-chosen spans old_sets sets number fits kept within is = elim kept [
     added = [];
     kept = same ∙ sym (append-nil old_sets);
     fit = tt;
+    form = tt;
+    free = record { anchor = refl; start = refl; end = refl };
     known = within;
     match_them = λ all label i j begins. set-matches spans sets all label number i j within is begins;
   })
@@ -60,6 +66,8 @@ set-chosen spans old_sets sets number fits kept within is = elim kept [
     added = spans ∷ [];
     kept = more;
     fit = (fits, tt);
+    form = tt;
+    free = record { anchor = refl; start = refl; end = refl };
     known = within;
     match_them = λ all label i j begins. set-matches spans sets all label number i j within is begins;
   })
@@ -84,14 +92,16 @@ one-of-both first others s i j =
     by-first true e h k = inl ((h.0.0, e), h.1)
     by-first false e h k = inr ((h.0.0, k), h.1)
 
-pub either-chosen : (spans first others : List Span) (old_sets between sets : List (List Span)) (p q : Pattern) → first ++ others ≡ spans
+pub either-chosen : (spans first others : List Span) (old_sets between sets : List (List Span)) (p q : Pattern) → first ++ others ≡ spans → Is Atom p
     → AddsChoice first old_sets between p → AddsChoice others between sets q → AddsChoice spans old_sets sets (Either p q)
-either-chosen spans first others old_sets between sets p q whole left right =
+either-chosen spans first others old_sets between sets p q whole atom left right =
     let kept : BeginsWith sets between = (right.added, right.kept) in
     record {
       added = left.added ++ right.added;
       kept = right.kept ∙ ap (λ l. l ++ right.added) left.kept ∙ append_assoc old_sets left.added right.added;
       fit = all-joined FitsLine left.added right.added left.fit right.fit;
+      form = (atom-branch p atom, right.form);
+      free = either-free p q left.free right.free;
       known = (sets-more p (length between) (length sets) (begins-length sets between kept) left.known, right.known);
       match_them = λ all label i j begins.
           let s = seen all label in
@@ -110,12 +120,26 @@ either-chosen spans first others old_sets between sets p q whole left right =
 
 -- ---- an item
 
-pub atom-shape : (p : Pattern) → HasShape false (as_atom (p ∷ []) ∷ [])
-atom-shape (Point c) = record { flat = refl; one = refl }
-atom-shape (Set n) = record { flat = refl; one = refl }
-atom-shape Any = record { flat = refl; one = refl }
-atom-shape (Group p) = record { flat = refl; one = refl }
-atom-shape p = record { flat = refl; one = refl }
+atom-flat : (p : Pattern) → list_all is_item (as_atom (p ∷ []) ∷ []) ≡ true
+atom-flat (Point c) = refl
+atom-flat (Set n) = refl
+atom-flat Any = refl
+atom-flat (Group p) = refl
+atom-flat p = refl
+
+atom-unanchored : (p : Pattern) → anchors (as_atom (p ∷ []) ∷ []) ≡ 0
+atom-unanchored (Point c) = refl
+atom-unanchored (Set n) = refl
+atom-unanchored Any = refl
+atom-unanchored (Group p) = refl
+atom-unanchored p = refl
+
+pub atom-shape : (p : Pattern) → Is Whole p → IsFree p → HasShape false (as_atom (p ∷ []) ∷ [])
+atom-shape p form free =
+    let item = as_atom (p ∷ []) in
+    let none = grouped-free p free in
+    free-shape (item ∷ []) (atom-flat p) (atom-unanchored p) (grouped-form p form, tt) (any-one (has_sign sign.Anchor) item none.anchor)
+    (any-one has_start item none.start) (any-one has_end item none.end)
 
 pub atom-chosen : (spans : List Span) (old_sets sets : List (List Span)) (p item : Pattern) → item ≡ as_atom (p ∷ []) → AddsChoice spans old_sets sets p
     → AddsChoice spans old_sets sets item
@@ -123,6 +147,8 @@ atom-chosen spans old_sets sets p item is choice = subst (AddsChoice spans old_s
   added = choice.added;
   kept = choice.kept;
   fit = choice.fit;
+  form = item-whole (as_atom (p ∷ [])) (grouped-form p choice.form);
+  free = grouped-free p choice.free;
   known = atom-has (p ∷ []) (length sets) (choice.known, tt);
   match_them = λ all label i j begins.
       let s = seen all label in

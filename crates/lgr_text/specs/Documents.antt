@@ -1,4 +1,4 @@
--- What a document says (RFC 7940, section 3).
+-- What a document says (RFC 7940, section 4.2).
 use Rattle.std.specs.Prelude.{◌≡◌, ℕ, Bool, true, not, ◌&&◌, ◌||◌, Option, Some, None, List, [], ◌∷◌, ◌++◌, codes}
 use Rattle.std.specs.Prelude.{bytes_eq, map, Result, Ok, Err, drop, take, option_and_then, if◌then◌else◌}
 use Rattle.xml_text.specs.Attributes.{Attribute}

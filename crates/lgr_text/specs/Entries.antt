@@ -22,7 +22,7 @@ sequence_by attributes = option_and_then not_empty (points_by attributes)
 abbrev pub point_by : Option (List ℕ) → Option ℕ
 point_by text = option_and_then point text
 
--- a range (section 5.1)
+-- a range (section 5)
 abbrev pub span_by : List Attribute → Option Span
 span_by attributes =
     span_between (point_by (value attributes (codes "first-cp"))) (point_by (value attributes (codes "last-cp")))
@@ -98,6 +98,6 @@ range_of node =
     if_plain (codes "first-cp last-cp when not-when tag comment ref") node (range_by node.attributes)
     else None
 
--- an entry of the repertoire (section 5.1)
+-- an entry of the repertoire (section 5)
 abbrev pub entry_of : Node → Option Entry
 entry_of node = if bytes_eq node.name (codes "char") then char_of node else range_of node

@@ -48,7 +48,7 @@ IsEntryExample =
       variants = record { points = 0x61 ∷ 0x65 ∷ []; type_name = Some (codes "blocked"); condition = None } ∷ [];
     })
 
--- <range first-cp="0030" last-cp="0039"/> (section 5.1)
+-- <range first-cp="0030" last-cp="0039"/> (section 5)
 abbrev pub IsRangeExample : Type 0
 IsRangeExample =
     entry_of (record {

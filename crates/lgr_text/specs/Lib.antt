@@ -7,6 +7,8 @@ pub mod Classes
 pub mod CodePoints
 pub mod DefinitionOrder
 pub mod Definitions
+pub mod Demands
+pub mod Dispositions
 pub mod Documents
 pub mod Elements
 pub mod Entries
@@ -14,8 +16,11 @@ pub mod Examples
 pub mod Facts
 pub mod Known
 pub mod LabelEnds
+pub mod Labels
 pub mod Laws
+pub mod Meanings
 pub mod NamedParts
+pub mod Names
 pub mod Nested
 pub mod Orders
 pub mod PartAtoms
@@ -23,7 +28,9 @@ pub mod PartMatches
 pub mod Parts
 pub mod Properties
 pub mod PropertyNames
+pub mod Readings
 pub mod Records
+pub mod Repertoire
 pub mod RuleExamples
 pub mod Sections
 pub mod Sizes

@@ -58,7 +58,7 @@ pub record Variant : Type 0 where
   pub type_name : Option (List ℕ)
   pub condition : Option Condition
 
--- a sequence of code points, or a range, which is an entry for each scalar value in it (section 5.1)
+-- a sequence of code points, or a range, which is an entry for each code point in it (section 5)
 pub data Source : Type 0 where
   Sequence : List ℕ → Source
   Range : Span → Source

@@ -1,4 +1,4 @@
--- The sections of a file, and in which order they stand (RFC 7940, section 3).
+-- The sections of a file, and in which order they stand (RFC 7940, section 4.2).
 use Rattle.std.specs.Prelude.{Option, Some, None, List, [], ◌∷◌, codes, bytes_eq, option_map, option_and_then}
 use Rattle.std.specs.Prelude.{if◌then◌else◌}
 use Rattle.lgr_text.specs.Elements.{Content, Node, each_element, every_element, if_among}

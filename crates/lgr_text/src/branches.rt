@@ -1,8 +1,10 @@
 //! The branches of a rule (RFC 7940, sections 6.3.4 and 6.4.1): a choice in which the anchor stands is one of patterns,
 //! each of which has the anchor, by itself or from a rule that is named.
-ghost use Rattle.std.specs.Prelude.{◌≡◌, ◌+◌, false, true, map, length, None, IfOk, OnOk};
+ghost use Rattle.std.specs.Prelude.{◌≡◌, ◌+◌, false, true, map, length, None, IfOk, IsTrue, OnOk};
 ghost use Rattle.label_patterns.specs.Matches.{HasItsSets};
 ghost use Rattle.label_patterns.specs.Trees.{pattern};
+ghost use Rattle.ruleset_text.specs.Grammar.{Is, Whole};
+ghost use Rattle.ruleset_text.specs.Rules.{is_rule_or_whole};
 ghost use Rattle.lgr_text.specs.Known.{known as known_of, HaveSpans};
 ghost use Rattle.lgr_text.specs.PartAtoms.{fault_within, rule_atoms};
 ghost use Rattle.lgr_text.specs.PartMatches.{has_anchor as has_anchor_part, part_fault};
@@ -16,7 +18,9 @@ ghost use Rattle.lgr_text.specs.inner.Items.{HaveSets};
 use crate::atoms::left_after;
 use crate::known::Known;
 use crate::part_faults::{check_then, has_anchor, have_anchors};
-use crate::part_items::{Side, either, named_pattern, push, push_copies, push_part, sequence_of};
+use crate::part_items::{
+    either, named_pattern, push, push_copies, push_following, push_part, sequence_of,
+};
 use crate::records::PartTree;
 use crate::rule_error::{RuleError, RuleFault};
 use label_patterns::{PatternTree, PointSet};
@@ -112,7 +116,7 @@ fn plain_pattern(
     ensures fault { IsFaultOf (part_fault (known_of known.entry) (part_of rule.now)) result }
 {
     let mut items = Vec::new(alloc);
-    push_part(alloc, known, &mut items, sets, Side::Before, rule)?;
+    push_part(alloc, known, &mut items, sets, rule)?;
     Ok(sequence_of(alloc, items)?)
 }
 
@@ -140,10 +144,10 @@ fn anchored_pattern(
             let mut items = Vec::new(alloc);
             if has_anchor(known, first) {
                 let tree = anchored_pattern(alloc, known, sets, first)?;
-                push_part(alloc, known, &mut items, sets, Side::After, rest)?;
+                push_following(alloc, known, &mut items, sets, rest)?;
                 followed(alloc, tree, &items)
             } else {
-                push_part(alloc, known, &mut items, sets, Side::Before, first)?;
+                push_part(alloc, known, &mut items, sets, first)?;
                 let tree = anchored_pattern(alloc, known, sets, rest)?;
                 preceded(alloc, &items, tree)
             }
@@ -176,6 +180,7 @@ pub fn pattern_of_rule(
     requires branches { HaveBranches (known_of known).rules }
     ensures known { IfOk result (λ tree. HasItsSets (length made.new.sets.items) (pattern tree)) }
     ensures branches { IfOk result (λ tree. HasBranches (pattern tree)) }
+    ensures form { IfOk result (λ tree. Is Whole (pattern tree) × IsTrue (is_rule_or_whole (pattern tree))) }
     ensures pattern { IfOk result (λ tree.
         SaysRule (known_of known.entry) made.new.sets.items (pattern tree) (part_of rule.now)) }
     ensures part { IfOk result (λ tree.

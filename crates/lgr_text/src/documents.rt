@@ -1,4 +1,4 @@
-//! What a document says (RFC 7940, section 3).
+//! What a document says (RFC 7940, section 4.2).
 ghost use Rattle.std.specs.Prelude.{◌≡◌, IfOk, List, false, map, option_and_then, option_map};
 ghost use Rattle.lgr_text.specs.Documents as documents;
 ghost use Rattle.lgr_text.specs.Documents.{IsSaidBy};

@@ -102,7 +102,7 @@ pub fn opened<'t, 'a>(said: &'t Said<'a>) -> Option<(&'t [u8], &'t [Attribute<'a
         (λ tag. said_as said.now ≡ Open tag.0.now tag.1.now) }
 {
     match said {
-        Said::Open(name, attributes) => Some((name.as_slice(), attributes)),
+        Said::Open(name, attributes) => Some((*name, *attributes)),
         Said::Text(_) | Said::Close => None,
     }
 }
@@ -112,7 +112,7 @@ fn text_in<'t>(said: &'t Said<'_>) -> Option<&'t [u8]>
     ensures { MatchOption result (is_text (said_as said.now) ≡ false) (λ text. said_as said.now ≡ Text text.now) }
 {
     match said {
-        Said::Text(text) => Some(text.as_slice()),
+        Said::Text(text) => Some(*text),
         Said::Open(_, _) | Said::Close => None,
     }
 }
@@ -144,7 +144,7 @@ fn is_blank(said: &Said<'_>) -> bool
     ensures { result ≡ is_blank_said (said_as said.now) }
 {
     match said {
-        Said::Text(text) => is_blank_text(text.as_slice()),
+        Said::Text(text) => is_blank_text(text),
         Said::Open(_, _) | Said::Close => false,
     }
 }

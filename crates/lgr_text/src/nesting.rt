@@ -19,7 +19,7 @@ impl<'a> Elements<'a> {
         for token in self.tokens {
             match token.said() {
                 Said::Open(name, _) => {
-                    if !has_prefix(name.as_slice(), self.prefix) {
+                    if !has_prefix(name, self.prefix) {
                         return Err(ReadError::Wrong(token.line()));
                     }
                     open += 1;

@@ -4,19 +4,21 @@ ghost use Rattle.std.specs.Prelude.{IfOk, OnOk};
 ghost use Rattle.label_patterns.specs.Patterns as patterns;
 ghost use Rattle.label_patterns.specs.Sets.{Rise};
 ghost use Rattle.label_patterns.specs.Trees.{pattern};
+ghost use Rattle.ruleset_text.specs.Grammar.{Is, Atom};
 ghost use Rattle.lgr_text.specs.ClassMembers.{class_fault, HasSpans};
 ghost use Rattle.lgr_text.specs.Known.{known as known_of, HaveSpans};
+ghost use Rattle.lgr_text.specs.LabelEnds.{begins_label};
 ghost use Rattle.lgr_text.specs.PartMatches.{has_anchor, name_fault, part_fault, rule_named};
-ghost use Rattle.lgr_text.specs.PartMatches.{BeginsWith, IsWellFormed, Matching};
+ghost use Rattle.lgr_text.specs.PartMatches.{IsWellFormed};
 ghost use Rattle.lgr_text.specs.Records.{class as class_of, part as part_of};
 ghost use Rattle.lgr_text.specs.inner.Branches.{HaveBranches};
 ghost use Rattle.lgr_text.specs.inner.Faults.{IsFaultOf};
 ghost use Rattle.lgr_text.specs.inner.Items.{as_atom, choice_of, copies, further, in_sequence};
 ghost use Rattle.lgr_text.specs.inner.Items.{is_atom as is_atom_pattern};
-ghost use Rattle.lgr_text.specs.inner.Items.{never as never_pattern, never_on as never_pattern_on};
-ghost use Rattle.lgr_text.specs.inner.Items.{nothing as nothing_pattern};
+ghost use Rattle.lgr_text.specs.inner.Items.{is_never as is_never_pattern, never as never_pattern};
+ghost use Rattle.lgr_text.specs.inner.Items.{nothing as nothing_pattern, turned};
 ghost use Rattle.lgr_text.specs.inner.Items.{literal_items, ungrouped as ungrouped_pattern};
-ghost use Rattle.lgr_text.specs.inner.Items.{AddsChoice, AddsClass, Appends, FitsLine, HaveSets};
+ghost use Rattle.lgr_text.specs.inner.Items.{AddsChoice, AddsClass, Appends, FitsLine, Follows, HaveSets};
 
 use crate::class_sets::set_of;
 use crate::joins::SetOperation;
@@ -84,7 +86,8 @@ fn set_tree(
 ) -> Result<PatternTree, AllocError>
     requires rise { Rise spans.now }
     requires fits { FitsLine spans.now }
-    ensures { IfOk result (λ tree. AddsChoice spans.now sets.old.items sets.new.items (pattern tree)) }
+    ensures sets { IfOk result (λ tree. AddsChoice spans.now sets.old.items sets.new.items (pattern tree)) }
+    ensures atom { IfOk result (λ tree. Is Atom (pattern tree)) }
 {
     let set = PointSet::new(Vec::from_slice(alloc, spans)?);
     let number = number_of_set(sets, set)?;
@@ -134,30 +137,58 @@ fn nothing(alloc: Global) -> Result<PatternTree, AllocError>
     Ok(PatternTree::Optional(Box::new(alloc, inner)?))
 }
 
-/// Where a part of a rule stands: before the anchor, or where there is none; or after it.
-#[derive(Clone, Copy)]
-pub(crate) enum Side {
-    Before,
-    After,
-}
-
-/// What no part of a label matches: a code point before the start, or after the end, since no pattern has the start of
-/// a label after the anchor.
-fn never_on(alloc: Global, side: Side) -> Result<PatternTree, AllocError>
-    ensures { IfOk result (λ tree. pattern tree ≡ never_pattern_on side) }
-{
-    let any = Box::new(alloc, PatternTree::Any)?;
-    match side {
-        Side::Before => Ok(PatternTree::Then(any, Box::new(alloc, PatternTree::Start)?)),
-        Side::After => Ok(PatternTree::Then(Box::new(alloc, PatternTree::End)?, any)),
-    }
-}
-
-/// What no part of a label matches.
+/// What no part of a label matches: a code point before the start.
 fn never(alloc: Global) -> Result<PatternTree, AllocError>
     ensures { IfOk result (λ tree. pattern tree ≡ never_pattern) }
 {
-    never_on(alloc, Side::Before)
+    then(alloc, PatternTree::Any, PatternTree::Start)
+}
+
+/// Whether two patterns, one after the other, are what no part of a label matches.
+fn is_never(first: &PatternTree, rest: &PatternTree) -> bool
+    ensures { result ≡ is_never_pattern (pattern first.now) (pattern rest.now) }
+{
+    matches!(first, PatternTree::Any) && matches!(rest, PatternTree::Start)
+}
+
+/// Makes the pattern one that may stand after the anchor, where no pattern has the start of a label: what no part of a
+/// label matches becomes a code point after the end.
+fn turn(tree: &mut PatternTree)
+    ensures { pattern tree.new ≡ turned (pattern tree.old) }
+{
+    match tree {
+        PatternTree::Group(part) => turn(part),
+        PatternTree::Optional(part) => turn(part),
+        PatternTree::Many(part) => turn(part),
+        PatternTree::Then(first, rest) => {
+            if is_never(first, rest) {
+                **first = PatternTree::End;
+                **rest = PatternTree::Any;
+            } else {
+                turn(first);
+                turn(rest);
+            }
+        }
+        PatternTree::Either(left, right) => {
+            turn(left);
+            turn(right);
+        }
+        _ => {}
+    }
+}
+
+/// Appends what may stand after the anchor in the place of other items.
+fn push_turned(items: &mut Vec<PatternTree>, others: Vec<PatternTree>) -> Result<(), RuleError>
+    ensures items { OnOk result (map pattern items.new.items ≡
+        map pattern items.old.items ++ map turned (map pattern others.items)) }
+    ensures fault { IsFaultOf None result }
+{
+    for item in others {
+        let mut item = item;
+        turn(&mut item);
+        push(items, item)?;
+    }
+    Ok(())
 }
 
 /// The items as one atom, to which `?` or `*` may be added.
@@ -252,12 +283,12 @@ pub(crate) fn push_copies(
 }
 
 /// Appends what no part of a label matches, in a group.
-fn push_never(alloc: Global, items: &mut Vec<PatternTree>, side: Side) -> Result<(), RuleError>
+fn push_never(alloc: Global, items: &mut Vec<PatternTree>) -> Result<(), RuleError>
     ensures items { OnOk result (map pattern items.new.items ≡
-        map pattern items.old.items ++ patterns.Group (never_pattern_on side) ∷ []) }
+        map pattern items.old.items ++ patterns.Group never_pattern ∷ []) }
     ensures fault { IsFaultOf None result }
 {
-    let inner = never_on(alloc, side)?;
+    let inner = never(alloc)?;
     push(items, group(alloc, inner)?)
 }
 
@@ -266,17 +297,16 @@ fn push_literal(
     alloc: Global,
     known: Known<'_>,
     items: &mut Vec<PatternTree>,
-    side: Side,
     literal: &[u32],
 ) -> Result<(), RuleError>
     ensures items { OnOk result (map pattern items.new.items ≡
-        map pattern items.old.items ++ literal_items side (known_of known.entry).points literal.now) }
+        map pattern items.old.items ++ literal_items (known_of known.entry).points literal.now) }
     ensures fault { IsFaultOf None result }
 {
     if known.points.has_all(literal) {
         push_points(items, literal)
     } else {
-        push_never(alloc, items, side)
+        push_never(alloc, items)
     }
 }
 
@@ -298,19 +328,18 @@ fn push_class(
     known: Known<'_>,
     items: &mut Vec<PatternTree>,
     sets: &mut Vec<PointSet>,
-    side: Side,
     class: &ClassTree,
 ) -> Result<(), RuleError>
     requires spans { HasSpans (class_of class.now) }
     requires entries { HaveSpans (known_of known).entries }
-    ensures items { OnOk result (AddsClass side (known_of known.entry) (class_of class.now)
+    ensures items { OnOk result (AddsClass (known_of known.entry) (class_of class.now)
         sets.old.items sets.new.items (map pattern items.old.items) (map pattern items.new.items)) }
     ensures fault { IsFaultOf (class_fault (known_of known.entry) (class_of class.now)) result }
 {
     let class = set_of(alloc, known, class)?;
     let set = class.join(alloc, SetOperation::Intersection, known.points)?;
     if set.is_empty() {
-        return push_never(alloc, items, side);
+        return push_never(alloc, items);
     }
     let choice = choice_of_sets(alloc, sets, set.spans())?;
     let item = grouped(alloc, choice)?;
@@ -421,7 +450,6 @@ pub(crate) fn push_part(
     known: Known<'_>,
     items: &mut Vec<PatternTree>,
     sets: &mut Vec<PointSet>,
-    side: Side,
     part: &PartTree,
 ) -> Result<(), RuleError>
     requires part { IsWellFormed (part_of part.now) }
@@ -429,37 +457,60 @@ pub(crate) fn push_part(
     requires entries { HaveSpans (known_of known).entries }
     requires rules { HaveSets (length sets.old.items) (known_of known).rules }
     requires branches { HaveBranches (known_of known).rules }
-    ensures items { OnOk result (Appends (known_of known.entry).points
-        sets.old.items sets.new.items (map pattern items.old.items) (map pattern items.new.items)
-        (Matching (known_of known.entry) (part_of part.now))) }
+    ensures items { OnOk result (Appends (known_of known.entry) sets.old.items sets.new.items
+        (map pattern items.old.items) (map pattern items.new.items) (part_of part.now)) }
     ensures rules { OnOk result (HaveSets (length sets.new.items) (known_of known.entry).rules) }
     ensures fault { IsFaultOf (part_fault (known_of known.entry) (part_of part.now)) result }
 {
     match part {
-        PartTree::Literal(points) => push_literal(alloc, known, items, side, points),
+        PartTree::Literal(points) => push_literal(alloc, known, items, points),
         PartTree::Any => push(items, PatternTree::Any),
-        PartTree::Of(class) => push_class(alloc, known, items, sets, side, class),
+        PartTree::Of(class) => push_class(alloc, known, items, sets, class),
         PartTree::Start => push(items, PatternTree::Start),
         PartTree::End => push(items, PatternTree::End),
         PartTree::Anchor => push(items, PatternTree::Anchor),
         PartTree::OfRule(rule) => push_rule(alloc, known, items, rule.name.as_slice()),
         PartTree::Then(first, rest) => {
             check_then(known, first, rest)?;
-            push_part(alloc, known, items, sets, side, first)?;
-            push_part(alloc, known, items, sets, side, rest)
+            push_part(alloc, known, items, sets, first)?;
+            push_part(alloc, known, items, sets, rest)
         }
         PartTree::Choice(left, right) => {
             let mut left_items = Vec::new(alloc);
-            push_part(alloc, known, &mut left_items, sets, side, left)?;
+            push_part(alloc, known, &mut left_items, sets, left)?;
             let mut right_items = Vec::new(alloc);
-            push_part(alloc, known, &mut right_items, sets, side, right)?;
+            push_part(alloc, known, &mut right_items, sets, right)?;
             push_choice(alloc, items, left_items, right_items)
         }
         PartTree::Times(count, part) => {
             check_times(known, part)?;
             let mut once = Vec::new(alloc);
-            push_part(alloc, known, &mut once, sets, side, part)?;
+            push_part(alloc, known, &mut once, sets, part)?;
             push_times(alloc, items, *count, once)
         }
     }
+}
+
+/// Appends the same of a part that doesn't begin a label, as they may stand after the anchor.
+pub(crate) fn push_following(
+    alloc: Global,
+    known: Known<'_>,
+    items: &mut Vec<PatternTree>,
+    sets: &mut Vec<PointSet>,
+    part: &PartTree,
+) -> Result<(), RuleError>
+    requires part { IsWellFormed (part_of part.now) }
+    requires none { has_anchor (known_of known) (part_of part.now) ≡ false }
+    requires entries { HaveSpans (known_of known).entries }
+    requires rules { HaveSets (length sets.old.items) (known_of known).rules }
+    requires branches { HaveBranches (known_of known).rules }
+    requires start { begins_label (rule_named (known_of known)) (part_of part.now) ≡ false }
+    ensures items { OnOk result (Follows (known_of known.entry) sets.old.items sets.new.items
+        (map pattern items.old.items) (map pattern items.new.items) (part_of part.now)) }
+    ensures rules { OnOk result (HaveSets (length sets.new.items) (known_of known.entry).rules) }
+    ensures fault { IsFaultOf (part_fault (known_of known.entry) (part_of part.now)) result }
+{
+    let mut others = Vec::new(alloc);
+    push_part(alloc, known, &mut others, sets, part)?;
+    push_turned(items, others)
 }

@@ -1,4 +1,4 @@
-//! The sections of a file, and in which order they stand (RFC 7940, section 3).
+//! The sections of a file, and in which order they stand (RFC 7940, section 4.2).
 ghost use Rattle.std.specs.Prelude.{◌≡◌, map, option_and_then};
 ghost use Rattle.lgr_text.specs.Elements.{Content, each_element};
 ghost use Rattle.lgr_text.specs.Entries.{entry_of};

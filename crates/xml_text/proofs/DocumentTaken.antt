@@ -38,11 +38,11 @@ one_goes read s t bytes o r some is e = one_is step (option_map (on_line (line_n
 
 -- ---- bytes on one line
 
-same_line : (line b : ℕ) → is_in_line b ≡ true → next_line line b ≡ line
+pub same_line : (line b : ℕ) → is_in_line b ≡ true → next_line line b ≡ line
 same_line line b is = no (b == 10) (line + 1) line (not_false (b == 10) (and_both (not (b == 10)) (not (b == 13)) is).0)
 
 -- a byte that leads to a state on the same line
-stays : (s t : State) (b : ℕ) → is_in_line b ≡ true → t.line ≡ s.line → DocumentSteps.take s b ≡ Some t → step s b ≡ Some t
+pub stays : (s t : State) (b : ℕ) → is_in_line b ≡ true → t.line ≡ s.line → DocumentSteps.take s b ≡ Some t → step s b ≡ Some t
 stays s t b is line e =
     ap (λ (o : Option State). option_map (on_line (next_line s.line b)) o) e
     ∙ ap (λ (l : ℕ). Some (on_line l t)) (same_line s.line b is ∙ sym line)

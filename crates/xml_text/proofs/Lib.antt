@@ -11,6 +11,7 @@ pub mod DocumentLive
 pub mod DocumentReads
 pub mod DocumentRuns
 pub mod DocumentTaken
+pub mod MarkupTaken
 pub mod FileLemmas
 pub mod GatheredLemmas
 pub mod LineEndLemmas

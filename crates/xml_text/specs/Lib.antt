@@ -6,7 +6,6 @@ pub mod Files
 pub mod Examples
 pub mod LineEnds
 pub mod Names
-pub mod Passages
 pub mod Pieces
 pub mod References
 pub mod TagStops

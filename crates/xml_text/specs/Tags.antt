@@ -10,7 +10,6 @@ use Rattle.xml_text.specs.declared.quote.Quote.{Quote}
 use Rattle.xml_text.specs.declared.quote.Quote.TheVariants as quote
 use Rattle.xml_text.specs.Attributes.{Attribute, is_named}
 use Rattle.xml_text.specs.Names.{is_blank, AreBlanks, is_name, is_reference_byte}
-use Rattle.xml_text.specs.Passages.{passage}
 use Rattle.xml_text.specs.References.{referenced}
 
 -- ---- what a tag says
@@ -21,7 +20,7 @@ pub record Tag : Type 0 where
   pub kind : TagKind
 
 abbrev pub tag : read.Tag → Tag
-tag t = record { name = passage t.name; attributes = t.attributes.items; kind = t.kind }
+tag t = record { name = t.name.now; attributes = t.attributes.now; kind = t.kind }
 
 -- ---- values
 

@@ -3,7 +3,6 @@ use Rattle.std.specs.Prelude.{ℕ, List}
 use Rattle.xml_text.specs.declared.token.Said.{Said as Read}
 use Rattle.xml_text.specs.declared.token.Said.TheVariants as read
 use Rattle.xml_text.specs.Attributes.{Attribute}
-use Rattle.xml_text.specs.Passages.{passage}
 
 -- a start tag or the beginning of an empty element; what stands between two tags; an end tag or the end of an empty
 -- element
@@ -18,6 +17,6 @@ pub record Token : Type 0 where
   pub line : ℕ
 
 abbrev pub said : Read → Said
-said (read.Open name attributes) = Open (passage name) attributes.items
-said (read.Text bytes) = Text (passage bytes)
+said (read.Open name attributes) = Open name.now attributes.now
+said (read.Text bytes) = Text bytes.now
 said read.Close = Close

@@ -1,6 +1,5 @@
 -- The definitions that inner functions and private fields cite.
 pub mod Blocks
 pub mod DocumentSteps
-pub mod Gathering
 pub mod Runs
 pub mod TagSteps

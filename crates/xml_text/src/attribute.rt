@@ -1,51 +1,51 @@
 //! What a tag says.
 ghost use Rattle.std.specs.Prelude.{◌≡◌};
 ghost use Rattle.xml_text.specs.Attributes.{is as is_attribute, is_named};
-ghost use Rattle.xml_text.specs.Passages.{passage};
 
-use crate::passage::Passage;
 use std::marker::Model;
 
 /// An attribute: its name, and the UTF-8 of its value, in which each reference is replaced and each blank is a space.
 #[derive(Debug, Drop)]
 pub struct Attribute<'a> {
-    name: Passage<'a>,
-    value: Passage<'a>,
+    name: &'a [u8],
+    value: &'a [u8],
 }
 
 impl<'a> Model for Attribute<'a> {
     ghost use Rattle.xml_text.specs.Attributes.{Attribute as Said};
-    ghost use Rattle.xml_text.specs.Passages.{passage};
 
     ghost Value = { Said };
 
-    ghost view = { λ a. record { name = passage a.name; value = passage a.value } };
+    ghost view = { λ a. record { name = a.name.now; value = a.value.now } };
 }
 
 impl<'a> Attribute<'a> {
-    pub fn new(name: Passage<'a>, value: Passage<'a>) -> Self
-        ensures { result ≡ record { name = passage name.entry; value = passage value.entry } }
+    pub fn new(name: &'a [u8], value: &'a [u8]) -> Self
+        ensures { result ≡ record { name = name.now; value = value.now } }
     {
         Attribute { name, value }
     }
 
-    pub fn name(&self) -> &[u8]
+    #[inline]
+    pub fn name(&self) -> &'a [u8]
         ensures { result.now ≡ self.now.name }
     {
-        self.name.as_slice()
+        self.name
     }
 
-    pub fn value(&self) -> &[u8]
+    #[inline]
+    pub fn value(&self) -> &'a [u8]
         ensures { result.now ≡ self.now.value }
     {
-        self.value.as_slice()
+        self.value
     }
 
     /// Whether it has this name and this value.
     pub fn is(&self, name: &[u8], value: &[u8]) -> bool
         ensures { result ≡ is_attribute self.now name.now value.now }
     {
-        self.name() == name && self.value() == value
+        let is_named = self.name() == name;
+        is_named && self.value() == value
     }
 }
 
@@ -68,7 +68,7 @@ pub enum TagKind {
 /// A start tag, or the tag of an empty element.
 #[derive(Debug, Drop)]
 pub struct Tag<'a> {
-    pub name: Passage<'a>,
-    pub attributes: Vec<Attribute<'a>>,
+    pub name: &'a [u8],
+    pub attributes: &'a [Attribute<'a>],
     pub kind: TagKind,
 }

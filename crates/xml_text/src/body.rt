@@ -7,20 +7,26 @@ ghost use Rattle.xml_text.specs.LineEnds.{line_feeds};
 use crate::document_state::DocumentState;
 use crate::fault::ReadError;
 use crate::token::Token;
+use bumpalo::Bump;
 use std::alloc::Global;
 
 /// What a document says whose declaration is followed by this text, which begins on this line.
-pub fn read_body(alloc: Global, text: &[u8], line: usize) -> Result<Vec<Token<'_>>, ReadError>
+pub fn read_body<'a>(
+    alloc: Global,
+    arena: &'a Bump,
+    text: &'a [u8],
+    line: usize,
+) -> Result<Vec<Token<'a>>, ReadError>
     requires short { length text.now ≤ max_bytes }
     requires line { line ≤ max_bytes + 1 }
     ensures read { IfOk result (λ tokens. IsBody line (line_feeds text.now) tokens.items) }
     ensures stop { IfErr result (StopsBody line text.now) }
 {
-    let mut state = DocumentState::new(alloc, line);
+    let mut state = DocumentState::new(alloc, arena, line);
     let mut place = 0;
     while place < text.len() {
         let (_, rest) = text.split_at(place);
-        match state.read(alloc, rest)? {
+        match state.read(rest)? {
             Some(taken) => place += taken,
             None => return Err(ReadError::Stop(place)),
         }

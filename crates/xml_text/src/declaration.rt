@@ -13,10 +13,11 @@ use crate::attribute::{Attribute, Tag, TagKind};
 use crate::bytes::is_blank;
 use crate::fault::{DocumentError, ReadError};
 use crate::tag::read_tag;
+use bumpalo::Bump;
 use std::alloc::Global;
 
 /// How many bytes the declaration has with which a text begins: 0 if it begins as none does.
-pub fn declaration_length(alloc: Global, text: &[u8]) -> Result<usize, DocumentError>
+pub fn declaration_length(alloc: Global, arena: &Bump, text: &[u8]) -> Result<usize, DocumentError>
     requires { length text.now ≤ max_bytes }
     ensures within { IfOk result (λ n. n ≤ length text.now) }
     ensures declared { IfOk result (λ n.
@@ -24,7 +25,7 @@ pub fn declaration_length(alloc: Global, text: &[u8]) -> Result<usize, DocumentE
     ensures wrong { IfErr result (IsDeclarationFault text.now) }
 {
     if declares(text) {
-        read_declaration(alloc, text)
+        read_declaration(alloc, arena, text)
     } else {
         Ok(0)
     }
@@ -41,7 +42,7 @@ fn declares(text: &[u8]) -> bool
 }
 
 /// How many bytes the declaration has with which a text begins that begins as one.
-fn read_declaration(alloc: Global, text: &[u8]) -> Result<usize, DocumentError>
+fn read_declaration(alloc: Global, arena: &Bump, text: &[u8]) -> Result<usize, DocumentError>
     requires declares { words.declares text.now ≡ true }
     requires short { length text.now ≤ max_bytes }
     ensures within { IfOk result (λ n. n ≤ length text.now) }
@@ -53,7 +54,7 @@ fn read_declaration(alloc: Global, text: &[u8]) -> Result<usize, DocumentError>
     if !ends(end) {
         return Err(DocumentError::Declaration);
     }
-    if is_xml_tag(alloc, inside, is_ascii(text))? {
+    if is_xml_tag(alloc, arena, inside, is_ascii(text))? {
         Ok(inside.len() + 4)
     } else {
         Err(DocumentError::Declaration)
@@ -93,7 +94,12 @@ fn is_ascii(text: &[u8]) -> bool
 }
 
 /// Whether what stands between `<?` and `?>` is that of a declaration, perhaps of a text that is all ASCII.
-fn is_xml_tag(alloc: Global, inside: &[u8], ascii: bool) -> Result<bool, DocumentError>
+fn is_xml_tag(
+    alloc: Global,
+    arena: &Bump,
+    inside: &[u8],
+    ascii: bool,
+) -> Result<bool, DocumentError>
     requires { length inside.now ≤ max_bytes }
     ensures is { IfOk result (λ is. MatchBool is (IsXmlTag ascii inside.now) (IsXmlTag ascii inside.now → ⊥)) }
     ensures memory { IfErr result (λ e. e ≡ document.Memory) }
@@ -102,7 +108,7 @@ fn is_xml_tag(alloc: Global, inside: &[u8], ascii: bool) -> Result<bool, Documen
     text.push(b'<')?;
     text.extend_from_slice(inside)?;
     text.extend_from_slice(b"/>")?;
-    match read_tag(alloc, &text) {
+    match read_tag(alloc, arena, &text) {
         Ok((tag, length)) => {
             if length == text.len() {
                 Ok(is_declared(&tag, ascii))
@@ -120,8 +126,8 @@ fn is_declared(read: &Tag<'_>, ascii: bool) -> bool
     ensures { result ≡ words.is_xml_tag ascii (tag read.now) }
 {
     matches!(read.kind, TagKind::Empty)
-        && matches!(read.name.as_slice(), b"xml")
-        && are_declared(&read.attributes, ascii)
+        && read.name == b"xml".as_slice()
+        && are_declared(read.attributes, ascii)
 }
 
 fn are_declared(attributes: &[Attribute<'_>], ascii: bool) -> bool

@@ -10,6 +10,7 @@ use crate::declaration::declaration_length;
 use crate::fault::{DocumentError, Place, ReadError};
 use crate::lines::line_after;
 use crate::token::Token;
+use bumpalo::Bump;
 use std::alloc::Global;
 
 /// How many bytes a document may have: 64 MiB.
@@ -30,8 +31,12 @@ fn is_less_than(byte: Option<u8>) -> bool
 }
 
 /// What a document of XML 1.0 says that is written in UTF-8 and has no document type, or the first byte with which no
-/// document goes on.
-pub fn read_document(alloc: Global, text: &[u8]) -> Result<Vec<Token<'_>>, DocumentError>
+/// document goes on. What doesn't stand in the text as it is said stands in the arena.
+pub fn read_document<'a>(
+    alloc: Global,
+    arena: &'a Bump,
+    text: &'a [u8],
+) -> Result<Vec<Token<'a>>, DocumentError>
     ensures read { IfOk result (λ tokens. IsDocument text.now tokens.items) }
     ensures fault { IfErr result (IsFault text.now) }
 {
@@ -41,9 +46,9 @@ pub fn read_document(alloc: Global, text: &[u8]) -> Result<Vec<Token<'_>>, Docum
     if let Some(byte) = first_wrong_character(text) {
         return Err(DocumentError::NoCharacter(Place::new(text, byte)));
     }
-    let begin = front_length(alloc, text)?;
+    let begin = front_length(alloc, arena, text)?;
     let (front, body) = text.split_at(begin);
-    match read_body(alloc, body, line_after(front)) {
+    match read_body(alloc, arena, body, line_after(front)) {
         Ok(tokens) => Ok(tokens),
         Err(ReadError::Stop(place)) => Err(DocumentError::Stop(Place::new(text, begin + place))),
         Err(ReadError::Memory) => Err(DocumentError::Memory),
@@ -51,7 +56,7 @@ pub fn read_document(alloc: Global, text: &[u8]) -> Result<Vec<Token<'_>>, Docum
 }
 
 /// How many bytes the mark and the declaration have with which a text begins.
-fn front_length(alloc: Global, text: &[u8]) -> Result<usize, DocumentError>
+fn front_length(alloc: Global, arena: &Bump, text: &[u8]) -> Result<usize, DocumentError>
     requires { IsReadable text.now }
     ensures within { IfOk result (λ n. n ≤ length text.now) }
     ensures front { IfOk result (λ n. IsFront text.now (take n text.now)) }
@@ -59,7 +64,7 @@ fn front_length(alloc: Global, text: &[u8]) -> Result<usize, DocumentError>
 {
     let mark = mark_length(text);
     let (_, rest) = text.split_at(mark);
-    Ok(mark + declaration_length(alloc, rest)?)
+    Ok(mark + declaration_length(alloc, arena, rest)?)
 }
 
 /// How many bytes the byte order mark has with which a text begins.

@@ -1,10 +1,11 @@
 //! Reading a document by runs: what was read of it, and which byte may follow.
-ghost use Rattle.std.specs.Prelude.{◌≡◌, ◌==◌, ◌+◌, ◌<◌, ◌≤◌, ◌^◌, [], ◌∷◌, false, IfOk, OnOk, Some};
+ghost use Rattle.std.specs.Prelude.{◌≡◌, ◌==◌, ◌+◌, ◌<◌, ◌≤◌, ◌^◌, [], ◌∷◌, true, false, IfOk, OnOk, Some};
 ghost use Rattle.std.specs.Prelude.{length, slice_index};
 ghost use Rattle.xml_text.specs.declared.document_state.Part.TheVariants as parts;
 ghost use Rattle.xml_text.specs.inner.DocumentSteps as steps;
 ghost use Rattle.xml_text.specs.inner.DocumentSteps.{state, Goes, Reads};
-ghost use Rattle.xml_text.specs.inner.Runs.{taken_as, Takes};
+ghost use Rattle.xml_text.specs.Names as words;
+ghost use Rattle.xml_text.specs.inner.Runs.{taken_as, GoesOn, Takes};
 ghost use Rattle.xml_text.specs.inner.TagSteps.{tag_of};
 ghost use Rattle.xml_text.specs.Pieces.{is_xml as is_xml_name};
 ghost use Rattle.xml_text.specs.References.{referenced as referenced_by};
@@ -18,8 +19,8 @@ use crate::repeats::Repeats;
 use crate::run::{Run, one};
 use crate::state::TagState;
 use crate::token::{Said, Token};
+use bumpalo::Bump;
 use std::alloc::{AllocError, Global};
-use std::mem::replace;
 
 /// How many elements may be open at once.
 pub const MAX_LEVELS: usize = 64;
@@ -65,6 +66,8 @@ pub enum Part {
 /// What was read of a document.
 #[derive(Drop)]
 pub struct DocumentState<'a> {
+    /// Where that stands which doesn't stand in the text as it is said.
+    arena: &'a Bump,
     tokens: Vec<Token<'a>>,
     /// The names of the elements that are open, the innermost first.
     names: Names<'a>,
@@ -89,19 +92,20 @@ pub struct DocumentState<'a> {
 /// any more.
 impl<'a> DocumentState<'a> {
     /// Nothing was read before this line.
-    pub fn new(alloc: Global, line: usize) -> Self
+    pub fn new(alloc: Global, arena: &'a Bump, line: usize) -> Self
         ensures start { state result ≡ steps.start line }
         ensures after { result.is_after_return ≡ false }
     {
         DocumentState {
+            arena,
             tokens: Vec::new(alloc),
             names: Names::new(alloc),
             is_rooted: false,
-            said: Gathered::new(),
+            said: Gathered::new(alloc),
             line,
             is_after_return: false,
             begun: line,
-            tag: TagState::new(alloc),
+            tag: TagState::new(alloc, arena),
             word: Vec::new(alloc),
             part: Part::Content(Repeats::Zero),
         }
@@ -110,7 +114,7 @@ impl<'a> DocumentState<'a> {
     /// Reads a run of a text whose lines end in CR LF, LF or CR.
     // Always inline, as what it calls for each run: reading wants no call for a run.
     #[inline(always)]
-    pub fn read(&mut self, alloc: Global, rest: &'a [u8]) -> Result<Option<usize>, AllocError>
+    pub fn read(&mut self, rest: &'a [u8]) -> Result<Option<usize>, AllocError>
         requires some { 0 < length rest.now }
         requires line { self.old.line + 1 < 2 ^ 64 }
         ensures taken { IfOk result (λ taken. Reads self.old rest.now taken self.new) }
@@ -118,9 +122,9 @@ impl<'a> DocumentState<'a> {
     {
         let byte = rest[0];
         let taken = match byte {
-            b'\r' => self.step(alloc, b"\n")?,
+            b'\r' => self.step(b"\n")?,
             b'\n' if self.is_after_return => Some(1),
-            _ => self.step(alloc, rest)?,
+            _ => self.step(rest)?,
         };
         self.is_after_return = byte == b'\r';
         Ok(taken)
@@ -128,7 +132,7 @@ impl<'a> DocumentState<'a> {
 
     /// Reads a run, and counts lines.
     #[inline(always)]
-    fn step(&mut self, alloc: Global, rest: &'a [u8]) -> Result<Option<usize>, AllocError>
+    fn step(&mut self, rest: &'a [u8]) -> Result<Option<usize>, AllocError>
         requires some { 0 < length rest.now }
         requires line { self.old.line + 1 < 2 ^ 64 }
         ensures taken { IfOk result (λ taken.
@@ -140,29 +144,29 @@ impl<'a> DocumentState<'a> {
         } else {
             self.line
         };
-        let taken = self.take(alloc, rest)?;
+        let taken = self.take(rest)?;
         self.line = line;
         Ok(taken)
     }
 
     #[inline(always)]
-    fn take(&mut self, alloc: Global, rest: &'a [u8]) -> Result<Option<usize>, AllocError>
+    fn take(&mut self, rest: &'a [u8]) -> Result<Option<usize>, AllocError>
         requires { 0 < length rest.now }
         ensures { IfOk result (λ taken. Goes steps.take (state self.old) rest.now taken (state self.new)) }
     {
         let byte = rest[0];
         match self.part {
-            Part::Content(brackets) => self.content(alloc, brackets, rest),
-            Part::Reference => Ok(one(self.reference(alloc, byte)?)),
-            Part::Markup => self.markup(alloc, rest),
-            Part::Tag => self.tag(alloc, rest),
-            Part::EndName(at) => Ok(one(self.end_name(alloc, at, byte)?)),
-            Part::EndBlank => Ok(one(self.end_blank(alloc, byte)?)),
+            Part::Content(brackets) => self.content(brackets, rest),
+            Part::Reference => Ok(one(self.reference(byte)?)),
+            Part::Markup => self.markup(rest),
+            Part::Tag => self.tag(rest),
+            Part::EndName(at) => Ok(one(self.end_name(at, byte)?)),
+            Part::EndBlank => Ok(one(self.end_blank(byte)?)),
             Part::Exclamation => Ok(one(self.exclamation(byte))),
             Part::CommentBegin => Ok(one(self.comment_begin(byte))),
             Part::Comment(dashes) => Ok(self.comment(dashes, rest)),
             Part::SectionBegin(at) => Ok(one(self.section_begin(at, byte))),
-            Part::Section(brackets) => self.section(alloc, brackets, rest),
+            Part::Section(brackets) => self.section(brackets, rest),
             Part::Question => Ok(one(self.question(byte)?)),
             Part::Target => Ok(one(self.target(byte)?)),
             Part::TargetEnd => Ok(one(self.target_end(byte))),
@@ -179,20 +183,14 @@ impl<'a> DocumentState<'a> {
     }
 
     #[inline(always)]
-    fn content(
-        &mut self,
-        alloc: Global,
-        brackets: Repeats,
-        rest: &'a [u8],
-    ) -> Result<Option<usize>, AllocError>
+    fn content(&mut self, brackets: Repeats, rest: &'a [u8]) -> Result<Option<usize>, AllocError>
         requires { 0 < length rest.now }
         ensures { IfOk result (λ taken. Goes (steps.content_step brackets) (state self.old) rest.now taken
             (state self.new)) }
     {
         let byte = rest[0];
         if byte == b'<' {
-            self.begun = self.line;
-            return Ok(one(self.go_on(Part::Markup)));
+            return Ok(Some(self.begin_markup(rest)?));
         }
         if self.names.is_empty() {
             return Ok(one(is_blank(byte) && self.go_on(Part::Content(Repeats::Zero))));
@@ -203,32 +201,93 @@ impl<'a> DocumentState<'a> {
                 Ok(one(self.go_on(Part::Reference)))
             }
             b']' => {
-                self.said.add(alloc, rest, 1)?;
+                self.said.add(rest, 1)?;
                 Ok(one(self.go_on(Part::Content(brackets.after(true)))))
             }
             b'>' if brackets.is_two() => Ok(None),
-            _ => self.text_run(alloc, rest),
+            _ => self.text_run(rest),
+        }
+    }
+
+    /// Reads `<`, and the tag that begins or ends with it: how many bytes.
+    #[inline(always)]
+    fn begin_markup(&mut self, rest: &'a [u8]) -> Result<usize, AllocError>
+        requires some { 0 < length rest.now }
+        requires open { slice_index rest.now 0 ≡ 60 }
+        ensures { (brackets : Repeats) → IfOk result (λ n.
+            Goes (steps.content_step brackets) (state self.old) rest.now (Some n) (state self.new)) }
+    {
+        self.begun = self.line;
+        self.part = Part::Markup;
+        let (_, more) = rest.split_at(1);
+        let others = self.tag_after(more)?;
+        Ok(1 + others)
+    }
+
+    /// Reads what follows `<`, if it is a tag, or the beginning of one: how many bytes.
+    #[inline(always)]
+    #[tactic(auto, using(crate::proofs::TakenLemmas::no_more))]
+    fn tag_after(&mut self, rest: &'a [u8]) -> Result<usize, AllocError>
+        requires { self.old.part ≡ parts.Markup }
+        ensures { IfOk result (λ n. GoesOn steps.step (state self.old) rest.now n (state self.new)) }
+    {
+        let Some(byte) = rest.first() else {
+            return Ok(0);
+        };
+        if *byte == b'/' {
+            return self.end_tag(rest);
+        }
+        if !is_name_start(*byte) || !self.may_open() {
+            return Ok(0);
+        }
+        let len = self.open_tag(rest)?;
+        Ok(len)
+    }
+
+    /// Reads the rest of an end tag after `<`, if all of it stands there, and closes the element: how many bytes.
+    #[tactic(auto, using(crate::proofs::TakenLemmas::no_more))]
+    fn end_tag(&mut self, rest: &'a [u8]) -> Result<usize, AllocError>
+        requires some { 0 < length rest.now }
+        requires slash { slice_index rest.now 0 ≡ 47 }
+        requires part { self.old.part ≡ parts.Markup }
+        ensures { IfOk result (λ n. GoesOn steps.step (state self.old) rest.now n (state self.new)) }
+    {
+        let Some(expected) = self.names.innermost() else {
+            return Ok(0);
+        };
+        let (_, more) = rest.split_at(1);
+        let len = Run::Name.lead(more);
+        let (name, end) = more.split_at(len);
+        if name != expected {
+            return Ok(0);
+        }
+        match end {
+            [b'>', ..] => {
+                self.close()?;
+                Ok(1 + (len + 1))
+            }
+            _ => Ok(0),
         }
     }
 
     /// Reads bytes of text between tags, of which the first is one.
     #[inline(always)]
-    fn text_run(&mut self, alloc: Global, rest: &'a [u8]) -> Result<Option<usize>, AllocError>
+    fn text_run(&mut self, rest: &'a [u8]) -> Result<Option<usize>, AllocError>
         requires some { 0 < length rest.now }
         requires inside { steps.has_none self.old.names ≡ false }
         ensures { IfOk result (λ taken. Goes steps.spoken_step (state self.old) rest.now taken (state self.new)) }
     {
         let len = Run::Text.len(rest);
-        self.said.add(alloc, rest, len)?;
+        self.said.add(rest, len)?;
         self.part = Part::Content(Repeats::Zero);
         Ok(Some(len))
     }
 
-    fn reference(&mut self, alloc: Global, byte: u8) -> Result<bool, AllocError>
+    fn reference(&mut self, byte: u8) -> Result<bool, AllocError>
         ensures { IfOk result (λ taken. steps.reference_step (state self.old) byte ≡ taken_as taken (state self.new)) }
     {
         if byte == b';' {
-            return self.resolve(alloc);
+            return self.resolve();
         }
         if !is_reference_byte(byte) {
             return Ok(false);
@@ -238,7 +297,7 @@ impl<'a> DocumentState<'a> {
     }
 
     /// Puts the character in place of a reference that is complete.
-    fn resolve(&mut self, alloc: Global) -> Result<bool, AllocError>
+    fn resolve(&mut self) -> Result<bool, AllocError>
         ensures { IfOk result (λ taken. steps.resolved (state self.old) (referenced_by self.old.word.items) ≡
             taken_as taken (state self.new)) }
     {
@@ -247,11 +306,11 @@ impl<'a> DocumentState<'a> {
         };
         let mut room = [0; 4];
         let utf8 = character.encode_utf8(&mut room);
-        self.said.join(alloc, utf8.as_bytes())?;
+        self.said.join(utf8.as_bytes())?;
         Ok(self.go_on(Part::Content(Repeats::Zero)))
     }
 
-    fn markup(&mut self, alloc: Global, rest: &'a [u8]) -> Result<Option<usize>, AllocError>
+    fn markup(&mut self, rest: &'a [u8]) -> Result<Option<usize>, AllocError>
         requires { 0 < length rest.now }
         ensures { IfOk result (λ taken. Goes steps.markup_step (state self.old) rest.now taken (state self.new)) }
     {
@@ -259,7 +318,7 @@ impl<'a> DocumentState<'a> {
             b'!' => Ok(one(self.go_on(Part::Exclamation))),
             b'?' => Ok(one(self.go_on(Part::Question))),
             b'/' => Ok(one(!self.names.is_empty() && self.go_on(Part::EndName(0)))),
-            _ => self.begin_tag(alloc, rest),
+            _ => self.begin_tag(rest),
         }
     }
 
@@ -274,44 +333,64 @@ impl<'a> DocumentState<'a> {
         }
     }
 
-    fn begin_tag(&mut self, alloc: Global, rest: &'a [u8]) -> Result<Option<usize>, AllocError>
+    fn begin_tag(&mut self, rest: &'a [u8]) -> Result<Option<usize>, AllocError>
         requires { 0 < length rest.now }
         ensures { IfOk result (λ taken. Goes steps.begin_tag_step (state self.old) rest.now taken (state self.new)) }
     {
         if !self.may_open() {
             return Ok(None);
         }
+        if !is_name_start(rest[0]) {
+            return Ok(None);
+        }
+        Ok(Some(self.open_tag(rest)?))
+    }
+
+    /// Reads the name of a tag, of which the first byte is one, and what follows it: how many bytes.
+    #[inline(always)]
+    fn open_tag(&mut self, rest: &'a [u8]) -> Result<usize, AllocError>
+        requires some { 0 < length rest.now }
+        requires name { words.is_name_start (slice_index rest.now 0) ≡ true }
+        requires may { steps.may_open self.old.is_rooted self.old.names ≡ true }
+        ensures goes { IfOk result (λ n.
+            Goes steps.begin_tag_step (state self.old) rest.now (Some n) (state self.new)) }
+        ensures line { OnOk result (self.new.line ≡ self.old.line) }
+    {
         self.tag.restart();
         self.part = Part::Tag;
-        self.tag(alloc, rest)
+        let len = self.tag.name_run(rest)?;
+        if let Some(kind) = self.tag.kind() {
+            self.open(kind)?;
+        }
+        Ok(len)
     }
 
     #[inline(always)]
-    fn tag(&mut self, alloc: Global, rest: &'a [u8]) -> Result<Option<usize>, AllocError>
+    fn tag(&mut self, rest: &'a [u8]) -> Result<Option<usize>, AllocError>
         requires some { 0 < length rest.now }
         requires part { self.old.part ≡ parts.Tag }
         ensures { IfOk result (λ taken. Goes steps.tag_step (state self.old) rest.now taken (state self.new)) }
     {
-        let Some(len) = self.tag.read(alloc, rest)? else {
+        let Some(len) = self.tag.read(rest)? else {
             return Ok(None);
         };
         if let Some(kind) = self.tag.kind() {
-            self.open(alloc, kind)?;
+            self.open(kind)?;
         }
         Ok(Some(len))
     }
 
     /// Opens the element of a tag that is complete.
-    fn open(&mut self, alloc: Global, kind: TagKind) -> Result<(), AllocError>
+    fn open(&mut self, kind: TagKind) -> Result<(), AllocError>
         ensures { OnOk result (state self.new ≡ steps.opened (state self.old) (tag_of (state self.old).tag kind)) }
     {
-        self.end_text(alloc)?;
+        self.end_text()?;
         let Tag {
             name,
             attributes,
             ..
-        } = self.tag.take(alloc, kind)?;
-        self.names.open(alloc, kind, &name)?;
+        } = self.tag.take(kind)?;
+        self.names.open(kind, name)?;
         self.tokens
             .push(Token::new(Said::Open(name, attributes), self.begun))?;
         self.end_empty(kind)?;
@@ -331,17 +410,17 @@ impl<'a> DocumentState<'a> {
     }
 
     /// Ends the text before a tag.
-    fn end_text(&mut self, alloc: Global) -> Result<(), AllocError>
+    fn end_text(&mut self) -> Result<(), AllocError>
         ensures { OnOk result (state self.new ≡ steps.with_text (state self.old)) }
     {
         if !self.said.is_empty() {
-            let said = replace(&mut self.said, Gathered::new()).finish(alloc)?;
+            let said = self.said.finish(self.arena)?;
             self.tokens.push(Token::new(Said::Text(said), self.begun))?;
         }
         Ok(())
     }
 
-    fn end_name(&mut self, alloc: Global, at: usize, byte: u8) -> Result<bool, AllocError>
+    fn end_name(&mut self, at: usize, byte: u8) -> Result<bool, AllocError>
         ensures { IfOk result (λ taken. steps.end_name_step at (state self.old) byte ≡
             taken_as taken (state self.new)) }
     {
@@ -350,27 +429,29 @@ impl<'a> DocumentState<'a> {
         };
         match name.get(at) {
             Some(expected) => Ok(*expected == byte && self.go_on(Part::EndName(at + 1))),
-            None => self.end_blank(alloc, byte),
+            None => self.end_blank(byte),
         }
     }
 
-    fn end_blank(&mut self, alloc: Global, byte: u8) -> Result<bool, AllocError>
+    fn end_blank(&mut self, byte: u8) -> Result<bool, AllocError>
         ensures { IfOk result (λ taken. steps.end_blank_step (state self.old) byte ≡ taken_as taken (state self.new)) }
     {
         if byte == b'>' {
-            return self.close(alloc);
+            self.close()?;
+            return Ok(true);
         }
         Ok(is_blank(byte) && self.go_on(Part::EndBlank))
     }
 
     /// Closes the innermost element.
-    fn close(&mut self, alloc: Global) -> Result<bool, AllocError>
-        ensures { IfOk result (λ taken. Some (steps.closed (state self.old)) ≡ taken_as taken (state self.new)) }
+    fn close(&mut self) -> Result<(), AllocError>
+        ensures { OnOk result (state self.new ≡ steps.closed (state self.old)) }
     {
-        self.end_text(alloc)?;
+        self.end_text()?;
         self.names.pop();
         self.tokens.push(Token::new(Said::Close, self.begun))?;
-        Ok(self.go_on(Part::Content(Repeats::Zero)))
+        self.part = Part::Content(Repeats::Zero);
+        Ok(())
     }
 
     fn exclamation(&mut self, byte: u8) -> bool
@@ -418,38 +499,33 @@ impl<'a> DocumentState<'a> {
         })
     }
 
-    fn section(
-        &mut self,
-        alloc: Global,
-        brackets: Repeats,
-        rest: &'a [u8],
-    ) -> Result<Option<usize>, AllocError>
+    fn section(&mut self, brackets: Repeats, rest: &'a [u8]) -> Result<Option<usize>, AllocError>
         requires { 0 < length rest.now }
         ensures { IfOk result (λ taken. Goes (steps.section_step brackets) (state self.old) rest.now taken
             (state self.new)) }
     {
         let byte = rest[0];
         if byte == b']' {
-            return Ok(one(self.section_bracket(alloc, brackets)?));
+            return Ok(one(self.section_bracket(brackets)?));
         }
         if brackets.is_two() && byte == b'>' {
             return Ok(one(self.go_on(Part::Content(Repeats::Zero))));
         }
         let len = Run::Section.len(rest);
         let held = brackets.brackets();
-        self.said.add(alloc, held, held.len())?;
-        self.said.add(alloc, rest, len)?;
+        self.said.add(held, held.len())?;
+        self.said.add(rest, len)?;
         self.part = Part::Section(Repeats::Zero);
         Ok(Some(len))
     }
 
     /// Reads a bracket in a section: the last two may end it.
-    fn section_bracket(&mut self, alloc: Global, brackets: Repeats) -> Result<bool, AllocError>
+    fn section_bracket(&mut self, brackets: Repeats) -> Result<bool, AllocError>
         ensures { IfOk result (λ taken. steps.bracket_in_section brackets (state self.old) ≡
             taken_as taken (state self.new)) }
     {
         if brackets.is_two() {
-            self.said.add(alloc, b"]", 1)?;
+            self.said.add(b"]", 1)?;
         }
         Ok(self.go_on(Part::Section(brackets.after(true))))
     }

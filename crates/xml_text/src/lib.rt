@@ -13,7 +13,6 @@ mod gathered;
 mod laws;
 mod lines;
 mod names;
-mod passage;
 mod quote;
 mod reference;
 mod repeats;
@@ -31,7 +30,6 @@ pub use laws::{
     a_text_begins_with_one_tag, a_text_is_one_document, a_text_that_stops_is_no_document,
     definitions_give_the_examples,
 };
-pub use passage::Passage;
 pub use reference::referenced;
 pub use tag::read_tag;
 pub use token::{Said, Token};

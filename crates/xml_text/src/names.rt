@@ -1,10 +1,8 @@
 //! The names of the elements that are open.
 ghost use Rattle.std.specs.Prelude.{◌≡◌, ◌∷◌, [], List, ℕ, length, MatchOption, OnOk};
-ghost use Rattle.xml_text.specs.Passages.{passage};
 ghost use Rattle.xml_text.specs.inner.DocumentSteps.{has_none, names_with, without_first};
 
 use crate::attribute::TagKind;
-use crate::passage::Passage;
 use std::alloc::{AllocError, Global};
 use std::collections::VecDeque;
 use std::marker::Model;
@@ -12,16 +10,15 @@ use std::marker::Model;
 /// The names of the elements that are open, the innermost first.
 #[derive(Drop)]
 pub struct Names<'a> {
-    names: VecDeque<Passage<'a>>,
+    names: VecDeque<&'a [u8]>,
 }
 
 impl<'a> Model for Names<'a> {
     ghost use Rattle.std.specs.Prelude.{List, ℕ, map};
-    ghost use Rattle.xml_text.specs.Passages.{passage};
 
     ghost Value = { List (List ℕ) };
 
-    ghost view = { λ n. map passage n.names.items };
+    ghost view = { λ n. map (λ name. name.now) n.names.items };
 }
 
 impl<'a> Names<'a> {
@@ -49,33 +46,28 @@ impl<'a> Names<'a> {
     }
 
     /// The name of the innermost element.
-    pub fn innermost(&self) -> Option<&[u8]>
+    pub fn innermost(&self) -> Option<&'a [u8]>
         ensures { MatchOption result (self.now ≡ []) (λ name. (outer : List (List ℕ)) × (self.now ≡ name.now ∷ outer)) }
     {
         match self.names.front() {
-            Some(name) => Some(name.as_slice()),
+            Some(name) => Some(*name),
             None => None,
         }
     }
 
     /// Opens the element of a tag, unless it is empty.
-    pub fn open(
-        &mut self,
-        alloc: Global,
-        kind: TagKind,
-        name: &Passage<'a>,
-    ) -> Result<(), AllocError>
-        ensures { OnOk result (self.new ≡ names_with (passage name.now) self.old kind) }
+    pub fn open(&mut self, kind: TagKind, name: &'a [u8]) -> Result<(), AllocError>
+        ensures { OnOk result (self.new ≡ names_with name.now self.old kind) }
     {
         match kind {
-            TagKind::Start => self.push(name.copied(alloc)?),
+            TagKind::Start => self.push(name),
             TagKind::Empty => Ok(()),
         }
     }
 
     /// Opens an element.
-    fn push(&mut self, name: Passage<'a>) -> Result<(), AllocError>
-        ensures { OnOk result (self.new ≡ passage name.entry ∷ self.old) }
+    fn push(&mut self, name: &'a [u8]) -> Result<(), AllocError>
+        ensures { OnOk result (self.new ≡ name.now ∷ self.old) }
     {
         self.names.push_front(name)?;
         Ok(())

@@ -12,15 +12,22 @@ const END_OF_POINTS: u32 = 0x11_0000;
 pub fn referenced(name: &[u8]) -> Option<char>
     ensures { result ≡ referenced_by name.now }
 {
-    match name {
-        b"lt" => Some('<'),
-        b"gt" => Some('>'),
-        b"amp" => Some('&'),
-        b"apos" => Some('\''),
-        b"quot" => Some('"'),
-        [b'#', b'x', digits @ ..] => numbered(digits, 16),
-        [b'#', digits @ ..] => numbered(digits, 10),
-        _ => None,
+    if name == b"lt".as_slice() {
+        Some('<')
+    } else if name == b"gt".as_slice() {
+        Some('>')
+    } else if name == b"amp".as_slice() {
+        Some('&')
+    } else if name == b"apos".as_slice() {
+        Some('\'')
+    } else if name == b"quot".as_slice() {
+        Some('"')
+    } else {
+        match name {
+            [b'#', b'x', digits @ ..] => numbered(digits, 16),
+            [b'#', digits @ ..] => numbered(digits, 10),
+            _ => None,
+        }
     }
 }
 

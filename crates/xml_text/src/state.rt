@@ -1,7 +1,6 @@
 //! Reading a tag by runs: what was read of it, and which byte may follow.
 ghost use Rattle.std.specs.Prelude.{◌≡◌, ◌<◌, [], ◌∷◌, Some, true, length, slice_index, IfOk, IfSome, OnOk};
 ghost use Rattle.xml_text.specs.Names as words;
-ghost use Rattle.xml_text.specs.Passages.{passage};
 ghost use Rattle.xml_text.specs.References.{referenced};
 ghost use Rattle.xml_text.specs.Tags.{tag};
 ghost use Rattle.xml_text.specs.declared.state.Phase.TheVariants as phases;
@@ -12,12 +11,12 @@ ghost use Rattle.xml_text.specs.inner.TagSteps.{state, Goes};
 use crate::attribute::{Attribute, Tag, TagKind, is_one_named};
 use crate::bytes::{is_blank, is_name_byte, is_name_start, is_reference_byte, is_space};
 use crate::gathered::Gathered;
-use crate::passage::Passage;
 use crate::quote::Quote;
 use crate::reference::referenced;
 use crate::run::{Run, one};
+use bumpalo::Bump;
+use bumpalo::collections::into_bump_slice;
 use std::alloc::{AllocError, Global};
-use std::mem::replace;
 
 /// What was read last.
 #[derive(Clone, Copy, Debug, PartialEq, Eq)]
@@ -51,8 +50,10 @@ pub enum Phase {
 /// What was read of a tag.
 #[derive(Drop)]
 pub struct TagState<'a> {
+    /// Where attributes stand, and what doesn't stand in the text as it is said.
+    arena: &'a Bump,
     name: Gathered<'a>,
-    attributes: Vec<Attribute<'a>>,
+    attributes: Vec<Attribute<'a>, &'a Bump>,
     /// The name of the attribute that isn't complete.
     attribute: Gathered<'a>,
     /// What was read of its value.
@@ -86,14 +87,15 @@ fn plain_value(text: &[u8]) -> Option<&[u8]>
 /// any more.
 impl<'a> TagState<'a> {
     /// Nothing was read.
-    pub fn new(alloc: Global) -> Self
+    pub fn new(alloc: Global, arena: &'a Bump) -> Self
         ensures { state result ≡ steps.start }
     {
         TagState {
-            name: Gathered::new(),
-            attributes: Vec::new(alloc),
-            attribute: Gathered::new(),
-            value: Gathered::new(),
+            arena,
+            name: Gathered::new(alloc),
+            attributes: Vec::new(arena),
+            attribute: Gathered::new(alloc),
+            value: Gathered::new(alloc),
             reference: Vec::new(alloc),
             phase: Phase::Open,
         }
@@ -104,10 +106,10 @@ impl<'a> TagState<'a> {
     fn clear(&mut self)
         ensures { state self.new ≡ steps.start }
     {
-        self.name = Gathered::new();
+        self.name.clear();
         self.attributes.clear();
-        self.attribute = Gathered::new();
-        self.value = Gathered::new();
+        self.attribute.clear();
+        self.value.clear();
         self.reference.clear();
         self.phase = Phase::Open;
     }
@@ -123,22 +125,22 @@ impl<'a> TagState<'a> {
 
     /// Reads a run.
     #[inline(always)]
-    pub fn read(&mut self, alloc: Global, rest: &'a [u8]) -> Result<Option<usize>, AllocError>
+    pub fn read(&mut self, rest: &'a [u8]) -> Result<Option<usize>, AllocError>
         requires { 0 < length rest.now }
         ensures { IfOk result (λ taken. Goes steps.step (state self.old) rest.now taken (state self.new)) }
     {
         let byte = rest[0];
         match self.phase {
             Phase::Open => Ok(one(self.open(byte))),
-            Phase::Begin => self.begin(alloc, rest),
-            Phase::Name => self.name(alloc, rest),
-            Phase::After => self.after(alloc, rest),
-            Phase::Blank => self.blank(alloc, rest),
-            Phase::Attribute => self.attribute(alloc, rest),
+            Phase::Begin => self.begin(rest),
+            Phase::Name => self.name(rest),
+            Phase::After => self.after(rest),
+            Phase::Blank => self.blank(rest),
+            Phase::Attribute => self.attribute(rest),
             Phase::BeforeEquals => Ok(one(self.equals(byte))),
             Phase::AfterEquals => Ok(one(self.quote(byte))),
-            Phase::Value(quote) => self.value(alloc, quote, rest),
-            Phase::Reference(quote) => Ok(one(self.reference(alloc, quote, byte)?)),
+            Phase::Value(quote) => self.value(quote, rest),
+            Phase::Reference(quote) => Ok(one(self.reference(quote, byte)?)),
             Phase::Slash => Ok(one(self.slash(byte))),
             Phase::Ended(_) => Ok(None),
         }
@@ -158,39 +160,39 @@ impl<'a> TagState<'a> {
         byte == b'<' && self.go_on(Phase::Begin)
     }
 
-    fn begin(&mut self, alloc: Global, rest: &'a [u8]) -> Result<Option<usize>, AllocError>
+    fn begin(&mut self, rest: &'a [u8]) -> Result<Option<usize>, AllocError>
         requires { 0 < length rest.now }
         ensures { IfOk result (λ taken. Goes steps.begin_step (state self.old) rest.now taken (state self.new)) }
     {
         if !is_name_start(rest[0]) {
             return Ok(None);
         }
-        Ok(Some(self.name_run(alloc, rest)?))
+        Ok(Some(self.name_run(rest)?))
     }
 
-    fn name(&mut self, alloc: Global, rest: &'a [u8]) -> Result<Option<usize>, AllocError>
+    fn name(&mut self, rest: &'a [u8]) -> Result<Option<usize>, AllocError>
         requires { 0 < length rest.now }
         ensures { IfOk result (λ taken. Goes steps.name_step (state self.old) rest.now taken (state self.new)) }
     {
         let byte = rest[0];
         if !is_name_byte(byte) {
-            return self.after(alloc, rest);
+            return self.after(rest);
         }
-        self.name.add(alloc, rest, 1)?;
+        self.name.add(rest, 1)?;
         Ok(one(self.go_on(Phase::Name)))
     }
 
     /// Reads bytes of the tag's name, of which the first is one, and what follows them: how many bytes.
-    fn name_run(&mut self, alloc: Global, rest: &'a [u8]) -> Result<usize, AllocError>
+    pub fn name_run(&mut self, rest: &'a [u8]) -> Result<usize, AllocError>
         requires { 0 < length rest.now }
         ensures { IfOk result (λ n. Goes (λ s b. Some (steps.named s b)) (state self.old) rest.now (Some n)
             (state self.new)) }
     {
         let len = Run::Name.len(rest);
-        self.name.add(alloc, rest, len)?;
+        self.name.add(rest, len)?;
         self.phase = Phase::Name;
         let (_, more) = rest.split_at(len);
-        let others = self.rest_of_tag(alloc, more)?;
+        let others = self.rest_of_tag(more)?;
         Ok(len + others)
     }
 
@@ -206,7 +208,7 @@ impl<'a> TagState<'a> {
     /// the tag. How many bytes.
     #[inline(always)]
     #[tactic(auto, using(crate::proofs::TakenLemmas::no_more))]
-    fn rest_of_tag(&mut self, alloc: Global, rest: &'a [u8]) -> Result<usize, AllocError>
+    fn rest_of_tag(&mut self, rest: &'a [u8]) -> Result<usize, AllocError>
         ensures { IfOk result (λ n. GoesOn steps.step (state self.old) rest.now n (state self.new)) }
     {
         let mut place = 0;
@@ -214,7 +216,7 @@ impl<'a> TagState<'a> {
             self.phase = Phase::Blank;
             place += 1;
             let (_, more) = rest.split_at(place);
-            place += self.begin_attribute(alloc, more)?;
+            place += self.begin_attribute(more)?;
         }
         let (_, more) = rest.split_at(place);
         Ok(place + self.end_of_tag(more))
@@ -243,28 +245,28 @@ impl<'a> TagState<'a> {
     }
 
     /// Reads what may follow a name or a value.
-    fn after(&mut self, alloc: Global, rest: &'a [u8]) -> Result<Option<usize>, AllocError>
+    fn after(&mut self, rest: &'a [u8]) -> Result<Option<usize>, AllocError>
         requires { 0 < length rest.now }
         ensures { IfOk result (λ taken. Goes steps.after_step (state self.old) rest.now taken (state self.new)) }
     {
         let byte = rest[0];
         if is_blank(byte) {
-            return Ok(Some(self.blank_run(alloc, rest)?));
+            return Ok(Some(self.blank_run(rest)?));
         }
         Ok(one(self.end(byte)))
     }
 
     /// Reads a blank, and what follows it: how many bytes.
-    fn blank_run(&mut self, alloc: Global, rest: &'a [u8]) -> Result<usize, AllocError>
+    fn blank_run(&mut self, rest: &'a [u8]) -> Result<usize, AllocError>
         requires some { 0 < length rest.now }
         requires blank { words.is_blank (slice_index rest.now 0) ≡ true }
         ensures { IfOk result (λ n. Goes steps.after_step (state self.old) rest.now (Some n) (state self.new)) }
     {
         self.phase = Phase::Blank;
         let (_, more) = rest.split_at(1);
-        let len = self.begin_attribute(alloc, more)?;
+        let len = self.begin_attribute(more)?;
         let (_, others) = more.split_at(len);
-        let further = self.rest_of_tag(alloc, others)?;
+        let further = self.rest_of_tag(others)?;
         Ok(1 + (len + further))
     }
 
@@ -282,30 +284,30 @@ impl<'a> TagState<'a> {
     /// Reads an attribute after a blank, or its name, if one stands there: how many bytes.
     #[inline(always)]
     #[tactic(auto, using(crate::proofs::TakenLemmas::no_more))]
-    fn begin_attribute(&mut self, alloc: Global, rest: &'a [u8]) -> Result<usize, AllocError>
+    fn begin_attribute(&mut self, rest: &'a [u8]) -> Result<usize, AllocError>
         requires { self.old.phase ≡ phases.Blank }
         ensures { IfOk result (λ n. GoesOn steps.step (state self.old) rest.now n (state self.new)) }
     {
         match rest.first() {
-            Some(byte) if is_name_start(*byte) => self.attribute_begin(alloc, rest),
+            Some(byte) if is_name_start(*byte) => self.attribute_begin(rest),
             _ => Ok(0),
         }
     }
 
-    fn blank(&mut self, alloc: Global, rest: &'a [u8]) -> Result<Option<usize>, AllocError>
+    fn blank(&mut self, rest: &'a [u8]) -> Result<Option<usize>, AllocError>
         requires { 0 < length rest.now }
         ensures { IfOk result (λ taken. Goes steps.blank_step (state self.old) rest.now taken (state self.new)) }
     {
         if !is_name_start(rest[0]) {
-            return self.after(alloc, rest);
+            return self.after(rest);
         }
-        Ok(Some(self.attribute_begin(alloc, rest)?))
+        Ok(Some(self.attribute_begin(rest)?))
     }
 
     /// Reads an attribute whose value stands for itself, of whose name the first byte is one; or that name: how many
     /// bytes.
     #[inline(always)]
-    fn attribute_begin(&mut self, alloc: Global, rest: &'a [u8]) -> Result<usize, AllocError>
+    fn attribute_begin(&mut self, rest: &'a [u8]) -> Result<usize, AllocError>
         requires { 0 < length rest.now }
         ensures { IfOk result (λ n. Goes (λ s b. Some (steps.with_attribute s b)) (state self.old) rest.now (Some n)
             (state self.new)) }
@@ -314,12 +316,12 @@ impl<'a> TagState<'a> {
         let (name, more) = rest.split_at(len);
         match plain_value(more) {
             Some(value) if !is_one_named(&self.attributes, name) => {
-                self.end_attribute(Passage::Here(name), Passage::Here(value))?;
+                self.end_attribute(name, value)?;
                 Ok(len + (value.len() + 3))
             }
             _ => {
-                self.attribute = Gathered::begun(rest, len);
-                self.value = Gathered::new();
+                self.attribute.begin(rest, len);
+                self.value.clear();
                 self.phase = Phase::Attribute;
                 Ok(len)
             }
@@ -327,17 +329,18 @@ impl<'a> TagState<'a> {
     }
 
     /// Reads a byte after the name of an attribute, or one more of that name.
-    fn attribute(&mut self, alloc: Global, rest: &'a [u8]) -> Result<Option<usize>, AllocError>
+    fn attribute(&mut self, rest: &'a [u8]) -> Result<Option<usize>, AllocError>
         requires some { 0 < length rest.now }
         requires phase { self.old.phase ≡ phases.Attribute }
         ensures { IfOk result (λ taken. Goes steps.attribute_step (state self.old) rest.now taken (state self.new)) }
     {
         let byte = rest[0];
         if is_name_byte(byte) {
-            self.attribute.add(alloc, rest, 1)?;
+            self.attribute.add(rest, 1)?;
             return Ok(one(true));
         }
-        let is_new = !is_one_named(&self.attributes, self.attribute.as_slice());
+        let name = self.attribute.whole(self.arena)?;
+        let is_new = !is_one_named(&self.attributes, name);
         Ok(one(is_new && self.equals(byte)))
     }
 
@@ -361,12 +364,7 @@ impl<'a> TagState<'a> {
     }
 
     #[inline(always)]
-    fn value(
-        &mut self,
-        alloc: Global,
-        quote: Quote,
-        rest: &'a [u8],
-    ) -> Result<Option<usize>, AllocError>
+    fn value(&mut self, quote: Quote, rest: &'a [u8]) -> Result<Option<usize>, AllocError>
         requires some { 0 < length rest.now }
         requires phase { self.old.phase ≡ phases.Value quote }
         ensures { IfOk result (λ taken. Goes (steps.value_step quote) (state self.old) rest.now taken
@@ -374,7 +372,7 @@ impl<'a> TagState<'a> {
     {
         let byte = rest[0];
         if byte == quote.byte() {
-            self.end_value(alloc)?;
+            self.end_value()?;
             return Ok(Some(1));
         }
         match byte {
@@ -384,59 +382,53 @@ impl<'a> TagState<'a> {
                 Ok(one(self.go_on(Phase::Reference(quote))))
             }
             b'\t' | b'\n' | b'\r' => {
-                self.value.add(alloc, b" ", 1)?;
+                self.value.add(b" ", 1)?;
                 Ok(Some(1))
             }
-            _ => self.value_run(alloc, quote, rest),
+            _ => self.value_run(quote, rest),
         }
     }
 
     /// Ends a value, and its attribute.
-    fn end_value(&mut self, alloc: Global) -> Result<(), AllocError>
+    fn end_value(&mut self) -> Result<(), AllocError>
         ensures { OnOk result (state self.new ≡ steps.closed (state self.old)) }
     {
-        let name = replace(&mut self.attribute, Gathered::new()).finish(alloc)?;
-        let value = replace(&mut self.value, Gathered::new()).finish(alloc)?;
+        let name = self.attribute.finish(self.arena)?;
+        let value = self.value.finish(self.arena)?;
         self.end_attribute(name, value)
     }
 
     /// Ends an attribute with this name and this value.
     #[inline(always)]
-    fn end_attribute(&mut self, name: Passage<'a>, value: Passage<'a>) -> Result<(), AllocError>
-        ensures { OnOk result (state self.new ≡ steps.with_attribute_of (state self.old) (passage name.entry)
-            (passage value.entry)) }
+    fn end_attribute(&mut self, name: &'a [u8], value: &'a [u8]) -> Result<(), AllocError>
+        ensures { OnOk result (state self.new ≡ steps.with_attribute_of (state self.old) name.now value.now) }
     {
         self.attributes.push(Attribute::new(name, value))?;
-        self.attribute = Gathered::new();
-        self.value = Gathered::new();
+        self.attribute.clear();
+        self.value.clear();
         self.phase = Phase::After;
         Ok(())
     }
 
     /// Reads bytes of a value that stand for themselves, of which the first is one.
     #[inline(always)]
-    fn value_run(
-        &mut self,
-        alloc: Global,
-        quote: Quote,
-        rest: &'a [u8],
-    ) -> Result<Option<usize>, AllocError>
+    fn value_run(&mut self, quote: Quote, rest: &'a [u8]) -> Result<Option<usize>, AllocError>
         requires some { 0 < length rest.now }
         requires phase { self.old.phase ≡ phases.Value quote }
         ensures { IfOk result (λ taken. Goes (λ s b. Some (steps.with_value s (b ∷ []))) (state self.old) rest.now
             taken (state self.new)) }
     {
         let len = Run::Value(quote).len(rest);
-        self.value.add(alloc, rest, len)?;
+        self.value.add(rest, len)?;
         Ok(Some(len))
     }
 
-    fn reference(&mut self, alloc: Global, quote: Quote, byte: u8) -> Result<bool, AllocError>
+    fn reference(&mut self, quote: Quote, byte: u8) -> Result<bool, AllocError>
         ensures { IfOk result (λ taken. steps.reference_step quote (state self.old) byte ≡
             taken_as taken (state self.new)) }
     {
         if byte == b';' {
-            return self.resolve(alloc, quote);
+            return self.resolve(quote);
         }
         if !is_reference_byte(byte) {
             return Ok(false);
@@ -446,7 +438,7 @@ impl<'a> TagState<'a> {
     }
 
     /// Puts the character in place of a reference that is complete.
-    fn resolve(&mut self, alloc: Global, quote: Quote) -> Result<bool, AllocError>
+    fn resolve(&mut self, quote: Quote) -> Result<bool, AllocError>
         ensures { let s = state self.old in IfOk result
             (λ taken. steps.resolved quote s (referenced s.reference) ≡ taken_as taken (state self.new)) }
     {
@@ -455,7 +447,7 @@ impl<'a> TagState<'a> {
         };
         let mut room = [0; 4];
         let utf8 = character.encode_utf8(&mut room);
-        self.value.join(alloc, utf8.as_bytes())?;
+        self.value.join(utf8.as_bytes())?;
         Ok(self.go_on(Phase::Value(quote)))
     }
 
@@ -478,17 +470,17 @@ impl<'a> TagState<'a> {
 
     /// Takes the tag, which is complete. Its attributes get no more room than they need.
     #[inline(always)]
-    pub fn take(&mut self, alloc: Global, kind: TagKind) -> Result<Tag<'a>, AllocError>
+    pub fn take(&mut self, kind: TagKind) -> Result<Tag<'a>, AllocError>
         ensures tag { IfOk result (λ t. tag t ≡ steps.tag_of (state self.old) kind) }
         ensures new { OnOk result (state self.new ≡ steps.start) }
     {
-        let name = replace(&mut self.name, Gathered::new()).finish(alloc)?;
-        let mut attributes = Vec::with_capacity(alloc, self.attributes.len())?;
+        let name = self.name.finish(self.arena)?;
+        let mut attributes = Vec::with_capacity(self.arena, self.attributes.len())?;
         attributes.append(&mut self.attributes)?;
         self.clear();
         Ok(Tag {
             name,
-            attributes,
+            attributes: into_bump_slice(attributes),
             kind,
         })
     }

@@ -3,16 +3,15 @@ ghost use Rattle.std.specs.Prelude.{◌≡◌};
 ghost use Rattle.xml_text.specs.Tokens.{said as said_as};
 
 use crate::attribute::Attribute;
-use crate::passage::Passage;
 use std::marker::Model;
 
 /// What a document says at a place of it.
 #[derive(Debug, Drop)]
 pub enum Said<'a> {
     /// A start tag, or the beginning of an empty element.
-    Open(Passage<'a>, Vec<Attribute<'a>>),
+    Open(&'a [u8], &'a [Attribute<'a>]),
     /// The UTF-8 of what stands between two tags in the root element, without comments and processing instructions.
-    Text(Passage<'a>),
+    Text(&'a [u8]),
     /// An end tag, or the end of an empty element.
     Close,
 }

@@ -22,7 +22,7 @@ abbrev pub IsUnreadAs : Properties → Notation → List ℕ → Unread → Type
 IsUnreadAs properties notation text (Lines refusal) =
     (is_in_xml notation text ≡ false) × IsToldOf properties notation text refusal.fault
     × IsRefusalOf properties notation text refusal
-IsUnreadAs properties notation text (Ruleset error) = (is_in_xml notation text ≡ true) × lgr.IsToldOf text error
+IsUnreadAs properties notation text (Ruleset error) = (is_in_xml notation text ≡ true) × lgr.IsToldOf properties text error
 
 -- memory was refused, and nothing is told; or a fault that the text has is told, and the table can't be used
 abbrev pub TellsFault : Form → Bool → Properties → Notation → (text : List ℕ) → (old new : Held)

@@ -9,16 +9,16 @@ ghost use Rattle.valid_labels.specs.Validity.{IsSound};
 ghost use Rattle.variant_table.specs.Entries.{TableValue};
 ghost use Rattle.idn2_options.specs.Settings.{IsWithinLimits, keeping};
 ghost use Rattle.idn2_answers.specs.Answers.{jump_answer, variants_answer, IsJumpAnswer, IsListing};
-ghost use Rattle.idn2_answers.specs.Transcript.{TableGiven, IsCheck, IsReadAs, IsTableIn, IsTableOf};
+ghost use Rattle.idn2_answers.specs.Transcript.{IsCheck, IsReadAs, IsTableIn};
 ghost use Rattle.idn2_answers.specs.Transcript.{check_findings};
 ghost use Rattle.idn2_refusals.specs.Requests.{requested_label};
 ghost use Rattle.idn2_refusals.specs.Reports.{closing_status};
 ghost use Rattle.idn2_output.specs.Writing.{held, refusal_of};
-ghost use Rattle.idn2_cli.specs.Ends.{Does, Ends, Closes, at_lines_alone, mode_job};
+ghost use Rattle.idn2_cli.specs.Ends.{Closes, Does, RunsBy, at_lines_alone, mode_job};
 ghost use Rattle.idn2_cli.specs.Headline.{AnswersLabels, PrintsByText};
 ghost use Rattle.idn2_cli.specs.Memory.{IsFoundWithoutMemory};
 ghost use Rattle.idn2_cli.specs.inner.Searches.{IsReady};
-ghost use Rattle.idn2_cli.specs.inner.ServedModes.{Runs, Serves, mode_of, search_mode};
+ghost use Rattle.idn2_cli.specs.inner.ServedModes.{Serves, mode_of, search_mode};
 ghost use Rattle.idn2_options.specs.declared.command_line.mode.Mode.TheVariants as modes;
 
 use crate::modes::code_points::ByPoints;
@@ -53,8 +53,7 @@ pub fn run<R: Source, W: Sink, E: Sink>(
 ) -> Status
     requires limits { IsWithinLimits options.now }
     requires unread { IsUnread input.old }
-    ensures ends { (given : TableGiven) × IsTableOf options.now table.now given
-        × Ends (mode_job options.now given) input.old input.new
+    ensures ends { RunsBy options.now table.now input.old input.new
         (held (W.state out.old) (E.state err.old)) (held (W.state out.new) (E.state err.new)) result }
     // The theorem of listings and of jumps: these bytes of this output are the answers to these lines.
     ensures headline { AnswersLabels options.now.mode → PrintsByText options.now table.now input.old input.new
@@ -90,9 +89,7 @@ pub fn run_among<R: Source, W: Sink, E: Sink>(
     requires limits { IsWithinLimits options.now }
     requires registered { IfSome (option_copied registered) (AreRegistered options.now.properties) }
     requires unread { IsUnread input.old }
-    ensures ends { (given : TableGiven)
-        × IsTableOf (keeping (option_copied registered.entry) options.now) table.now given
-        × Ends (mode_job (keeping (option_copied registered.entry) options.now) given) input.old input.new
+    ensures ends { RunsBy (keeping (option_copied registered.entry) options.now) table.now input.old input.new
         (held (W.state out.old) (E.state err.old)) (held (W.state out.new) (E.state err.new)) result }
     ensures headline { AnswersLabels options.now.mode →
         PrintsByText (keeping (option_copied registered.entry) options.now) table.now input.old input.new
@@ -133,7 +130,7 @@ fn serve<R: Source, W: Sink, E: Sink>(
     console: &mut Console<'_, '_, W, E>,
 ) -> Status
     requires unread { IsUnread input.old }
-    ensures { Runs settings.now table.now input.old input.new console.old console.new result }
+    ensures { RunsBy settings.now table.now input.old input.new console.old console.new result }
 {
     match serve_mode(alloc, settings, table, input, console) {
         Ok(status) => status,

@@ -107,7 +107,7 @@ fn refuse_ruleset<W: Sink, E: Sink>(
     console: &mut Console<'_, '_, W, E>,
 ) -> Result<Status, Stop>
     ensures { (wanted : Bool) (properties : Properties) (notation : Notation) (text : List ℕ) →
-        is_in_xml notation text ≡ true → IsToldOf text error →
+        is_in_xml notation text ≡ true → IsToldOf properties text error →
         TellsFault form wanted properties notation text console.old console.new result }
 {
     match error {

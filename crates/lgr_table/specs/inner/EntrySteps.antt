@@ -1,8 +1,9 @@
 -- What each step of adding entries makes of a table.
 use Rattle.std.specs.Prelude.{◌≡◌, ℕ, Bool, List, ◌++◌, All, filter, map}
 use Rattle.lgr_text.specs.Records.{Entry}
-use Rattle.lgr_table.specs.Entries.{HasOneType, entries_of, entry_with, kept_sources, may_be}
-use Rattle.lgr_table.specs.Names.{asked_by}
+use Rattle.lgr_text.specs.Repertoire.{kept_sources, may_be}
+use Rattle.lgr_table.specs.Entries.{HasOneType, entries_of, entry_with}
+use Rattle.lgr_text.specs.Names.{asked_by}
 use Rattle.lgr_table.specs.Numbers.{Numbering}
 use Rattle.lgr_table.specs.inner.Steps.{AreAmong}
 use Rattle.ruleset_text.specs.Definitions.{Definitions}

@@ -12,10 +12,11 @@ use Rattle.lgr_text.specs.declared.records.Variant.{Variant}
 use Rattle.lgr_text.specs.declared.rule_error.RuleError.{RuleError}
 use Rattle.lgr_text.specs.declared.rule_error.RuleError.TheVariants as error
 use Rattle.lgr_text.specs.declared.rule_error.RuleFault.TheVariants as wrong
-use Rattle.lgr_table.specs.Entries.{all_entries, is_reflexive, may_be}
+use Rattle.lgr_text.specs.Repertoire.{is_reflexive, may_be}
+use Rattle.lgr_table.specs.Entries.{all_entries}
 use Rattle.lgr_table.specs.Faults.{HasRuleOn, HasWrongDefinition, IsNull, IsReflexiveAgain, Knows, LackRoom}
 use Rattle.lgr_table.specs.Faults.{StandsEarlier}
-use Rattle.lgr_table.specs.Names.{IsRuleOf}
+use Rattle.lgr_text.specs.Names.{IsRuleOf}
 use Rattle.lgr_table.specs.Numbers.{Numbering}
 use Rattle.ruleset_text.specs.Names.{number_of}
 use Rattle.variant_table.specs.Entries.{TableValue}

@@ -4,10 +4,11 @@ use Rattle.std.specs.Prelude.{All, AllPairs, Contains, length, map, unwrap_or}
 use Rattle.std.specs.List.{flat_map}
 use Rattle.lgr_text.specs.Records.{Action, Condition, Ruleset}
 use Rattle.lgr_table.specs.Entries.{AreOfOneType, all_entries, needs_type}
-use Rattle.lgr_table.specs.Meanings.{AreMeaningsOf, Meanings}
-use Rattle.lgr_table.specs.Names.{IsClassOf, IsRuleOf, asked, named_classes, named_rules}
+use Rattle.lgr_text.specs.Meanings.{AreMeaningsOf, Meanings}
+use Rattle.lgr_text.specs.Names.{IsClassOf, IsRuleOf, asked, named_classes, named_rules}
 use Rattle.lgr_table.specs.Numbers.{Numbering, number_among, types_of, types_with}
-use Rattle.lgr_table.specs.Tables.{SayActions, SayDemands, SaysAction, SaysDemand, SayRules, acting, demanded}
+use Rattle.lgr_text.specs.Demands.{demanded}
+use Rattle.lgr_table.specs.Tables.{SayActions, SayDemands, SaysAction, SaysDemand, SayRules, acting}
 use Rattle.lgr_table.specs.TableNames.{AreCalled, names_with}
 use Rattle.lgr_table.specs.inner.TableNames.{AreRuleNames}
 use Rattle.ruleset_text.specs.Actions.{NamedAction}

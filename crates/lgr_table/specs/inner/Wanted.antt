@@ -2,7 +2,8 @@
 use Rattle.std.specs.Prelude.{ℕ, Bool, List, ◌&&◌, filter}
 use Rattle.std.specs.List.{list_any}
 use Rattle.lgr_text.specs.Records as lgr
-use Rattle.lgr_table.specs.Entries.{has_type, lacks_type, may_be, sources, stays_untyped}
+use Rattle.lgr_text.specs.Repertoire.{may_be, sources}
+use Rattle.lgr_table.specs.Entries.{has_type, lacks_type, stays_untyped}
 use Rattle.lgr_table.specs.declared.untyped.Wanted.{Wanted}
 use Rattle.lgr_table.specs.declared.untyped.Wanted.TheVariants.{Typed, Untyped, Staying}
 

@@ -20,7 +20,6 @@ use Rattle.xml_text.specs.Tags.{Tag}
 use Rattle.xml_text.specs.Tokens
 use Rattle.xml_text.specs.Tokens.{Token}
 use Rattle.xml_text.specs.declared.state.Phase.TheVariants as phase
-use Rattle.xml_text.specs.inner.Gathering.{gathered}
 use Rattle.xml_text.specs.inner.Runs.{Takes}
 use Rattle.xml_text.specs.inner.TagSteps as tag
 
@@ -41,7 +40,7 @@ state s = record {
   tokens = s.tokens.items;
   names = s.names;
   rooted = s.is_rooted;
-  said = gathered s.said;
+  said = s.said;
   line = s.line;
   begun = s.begun;
   tag = tag.state s.tag;

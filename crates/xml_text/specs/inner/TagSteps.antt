@@ -12,7 +12,6 @@ use Rattle.xml_text.specs.declared.state.TagState as reading
 use Rattle.xml_text.specs.Attributes.{Attribute, is_named}
 use Rattle.xml_text.specs.Names.{is_blank, is_name_start, is_name_byte, is_reference_byte}
 use Rattle.xml_text.specs.References.{referenced}
-use Rattle.xml_text.specs.inner.Gathering.{gathered}
 use Rattle.xml_text.specs.inner.Runs.{Takes}
 use Rattle.xml_text.specs.Tags.{Tag, quote_byte, spaced}
 
@@ -29,10 +28,10 @@ pub record State : Type 0 where
 -- what the state in memory is seen as
 abbrev pub state : reading.TagState → State
 state s = record {
-  name = gathered s.name;
+  name = s.name;
   attributes = s.attributes.items;
-  attribute = gathered s.attribute;
-  value = gathered s.value;
+  attribute = s.attribute;
+  value = s.value;
   reference = s.reference.items;
   phase = s.phase;
 }

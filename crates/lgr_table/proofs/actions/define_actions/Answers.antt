@@ -4,7 +4,7 @@ use Rattle.std.specs.List.{filter_map}
 use Rattle.std.proofs.lemmas.List.Elements.{All-contains_itself, All-drop, All-take}
 use Rattle.std.proofs.lemmas.Result.{err_from_is_err_and, on_ok_weaker}
 use Rattle.lgr_text.specs.Records.{action, file}
-use Rattle.lgr_table.specs.Tables.{following, leading, rule_alone}
+use Rattle.lgr_text.specs.Demands.{following, leading, rule_alone}
 use Rattle.lgr_table.specs.inner.FaultSteps.{KnowsRules}
 use Rattle.lgr_table.specs.inner.Steps.{AddsDemands, HaveDefined}
 use Rattle.variant_table.specs.Entries.{TableValue}

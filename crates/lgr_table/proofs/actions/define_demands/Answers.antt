@@ -2,7 +2,7 @@ use Rattle.std.proofs.Common.{◌≡◌, Some, None, ap, map, subst, sym, take, 
 use Rattle.std.specs.List.{filter_map}
 use Rattle.std.specs.Option.{option_map}
 use Rattle.lgr_text.specs.Records.{action, condition}
-use Rattle.lgr_table.specs.Tables.{rule_alone}
+use Rattle.lgr_text.specs.Demands.{rule_alone}
 use Rattle.lgr_table.specs.inner.Steps.{AddsDemands}
 use Rattle.lgr_table.proofs.ActionLemmas.{one_more}
 use Rattle.std.specs.Prelude.{Contains, IfSome}

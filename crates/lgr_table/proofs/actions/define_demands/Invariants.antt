@@ -1,7 +1,7 @@
 use Rattle.std.proofs.Common.{map, take}
 use Rattle.std.specs.List.{filter_map}
 use Rattle.lgr_text.specs.Records.{action}
-use Rattle.lgr_table.specs.Tables.{rule_alone}
+use Rattle.lgr_text.specs.Demands.{rule_alone}
 use Rattle.lgr_table.specs.inner.Steps.{AddsDemands}
 use Rattle.lgr_table.proofs.actions.define_demands.Given as goal
 

@@ -3,7 +3,7 @@ use Rattle.std.specs.Prelude.{filter}
 use Rattle.std.specs.Prelude.{Contains}
 use Rattle.std.proofs.lemmas.Result.{err_from_is_err_and}
 use Rattle.lgr_text.specs.Records.{action, condition}
-use Rattle.lgr_table.specs.Tables.{rule_alone}
+use Rattle.lgr_text.specs.Demands.{rule_alone}
 use Rattle.lgr_table.specs.inner.Steps.{HaveDefined}
 use Rattle.lgr_table.specs.inner.TypeNames.{AreNamesOf}
 use Rattle.lgr_table.proofs.ActionLemmas.{defined_more, one_more}

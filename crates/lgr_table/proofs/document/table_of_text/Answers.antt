@@ -11,9 +11,9 @@ use Rattle.lgr_table.proofs.document.table_of_text.Goals as goal
 
 -- a fault of the ruleset is told of its text
 told-of : {X : Type 0} (text : List ℕ) (properties : Properties) (r : Ruleset) (result : Result X TableError) → SaysRuleset text (file r)
-    → IfErr result (IsFaultOfTable (may_stand properties) r) → IfErr result (IsToldOf text)
+    → IfErr result (IsFaultOfTable (may_stand properties) r) → IfErr result (IsToldOf properties text)
 told-of text properties r (Ok x) said told = tt
-told-of text properties r (Err e) said told = inr (inr (inr (inr (record { ruleset_ = r; said = said; properties = properties; told = told }))))
+told-of text properties r (Err e) said told = inr (record { ruleset_ = r; said = said; told = told })
 
 pub returns-clause-fault : goal.returns-clause-fault
 returns-clause-fault c = told-of _ _ _ c.table_of.result c.in_ok-ruleset.ensures.says c.table_of.ensures.fault

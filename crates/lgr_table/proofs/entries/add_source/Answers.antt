@@ -1,7 +1,8 @@
 use Rattle.std.proofs.Common.{◌≡◌, ◌∷◌, [], ◌++◌, true, map, sym, ap, subst, ◌∙◌}
 use Rattle.std.proofs.lemmas.Result.{err_from_is_err_and}
 use Rattle.lgr_text.specs.Records.{entry}
-use Rattle.lgr_table.specs.Entries.{entry_with, may_be}
+use Rattle.lgr_text.specs.Repertoire.{may_be}
+use Rattle.lgr_table.specs.Entries.{entry_with}
 use Rattle.lgr_table.specs.Tables.{may_stand}
 use Rattle.lgr_table.proofs.EntryLemmas.{form-added, source-kept, source-left}
 use Rattle.lgr_table.proofs.SourceLemmas.{told-of-source, told-of-variants}

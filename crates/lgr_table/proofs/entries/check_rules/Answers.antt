@@ -8,7 +8,7 @@ use Rattle.lgr_text.specs.Records as lgr
 use Rattle.lgr_text.specs.declared.records.Variant.{Variant}
 use Rattle.lgr_table.specs.Faults.{given}
 use Rattle.lgr_table.proofs.FaultLemmas.{of-entry}
-use Rattle.lgr_table.specs.Names.{asked}
+use Rattle.lgr_text.specs.Names.{asked}
 use Rattle.lgr_table.specs.inner.Steps.{AreAmong}
 use Rattle.lgr_table.proofs.entries.check_rules.Goals as goal
 

@@ -5,7 +5,7 @@ use Rattle.std.proofs.lemmas.List.Elements.{All-append, All-nil}
 use Rattle.std.proofs.lemmas.Result.{err_from_is_err_and}
 use Rattle.lgr_text.specs.Records.{variant}
 use Rattle.lgr_text.specs.Records as lgr
-use Rattle.lgr_table.specs.Names.{asked}
+use Rattle.lgr_text.specs.Names.{asked}
 use Rattle.lgr_table.specs.inner.Steps.{AreAmong}
 use Rattle.lgr_table.proofs.TypeLemmas.{pieces-more}
 use Rattle.lgr_text.specs.declared.records.Variant.{Variant}

@@ -1,7 +1,7 @@
 use Rattle.std.proofs.Common.{map, take}
 use Rattle.std.specs.List.{flat_map}
 use Rattle.lgr_text.specs.Records.{variant}
-use Rattle.lgr_table.specs.Names.{asked}
+use Rattle.lgr_text.specs.Names.{asked}
 use Rattle.lgr_table.specs.inner.Steps.{AreAmong}
 use Rattle.lgr_table.proofs.entries.check_rules_of_variants.Given as goal
 

@@ -4,7 +4,7 @@ use Rattle.std.proofs.lemmas.Result.{err_from_is_err_and}
 use Rattle.std.proofs.lemmas.List.Elements.{All-nil}
 use Rattle.lgr_text.specs.Records.{variant}
 use Rattle.lgr_text.specs.Records as lgr
-use Rattle.lgr_table.specs.Entries.{is_reflexive}
+use Rattle.lgr_text.specs.Repertoire.{is_reflexive}
 use Rattle.lgr_table.proofs.CalledLemmas.{HasOne, mapped-more, one-at-most, one-more}
 use Rattle.lgr_table.proofs.VariantLemmas.{told-reflexive}
 use Rattle.lgr_table.proofs.mapped.check_reflexive.Goals as goal

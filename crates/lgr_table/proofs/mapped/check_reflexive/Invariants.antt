@@ -1,6 +1,6 @@
 use Rattle.std.proofs.Common.{map, take}
 use Rattle.lgr_text.specs.Records.{variant}
-use Rattle.lgr_table.specs.Entries.{is_reflexive}
+use Rattle.lgr_text.specs.Repertoire.{is_reflexive}
 use Rattle.lgr_table.proofs.CalledLemmas.{HasOne}
 use Rattle.lgr_table.proofs.mapped.check_reflexive.Given as goal
 

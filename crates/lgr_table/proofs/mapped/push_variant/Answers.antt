@@ -1,7 +1,8 @@
 use Rattle.std.proofs.Common.{◌≡◌, ℕ, List, [], ◌∷◌, false, true, not, sym, ap, ◌∙◌, subst}
 use Rattle.std.proofs.lemmas.Bool.{and_from, and_left, and_right}
 use Rattle.lgr_text.specs.Records.{variant}
-use Rattle.lgr_table.specs.Entries.{is_reflexive, may_be, variant_of, variants_of}
+use Rattle.lgr_text.specs.Repertoire.{is_reflexive, may_be}
+use Rattle.lgr_table.specs.Entries.{variant_of, variants_of}
 use Rattle.lgr_table.specs.Tables.{may_stand}
 use Rattle.lgr_table.specs.inner.EntrySteps.{PushesVariants}
 use Rattle.lgr_table.proofs.CalledLemmas.{pushes-none, pushes-one, variants-kept, variants-left}

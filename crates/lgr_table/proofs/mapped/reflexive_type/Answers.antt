@@ -4,7 +4,7 @@ use Rattle.std.specs.Option.{option_and_then}
 use Rattle.std.proofs.lemmas.List.{drop_more, take-append-drop}
 use Rattle.lgr_text.specs.Records.{variant}
 use Rattle.lgr_text.specs.Records as lgr
-use Rattle.lgr_table.specs.Entries.{is_reflexive}
+use Rattle.lgr_text.specs.Repertoire.{is_reflexive}
 use Rattle.lgr_table.specs.Numbers.{type_number}
 use Rattle.lgr_table.proofs.CalledLemmas.{find-first, find-none, mapped-more}
 use Rattle.lgr_table.proofs.mapped.reflexive_type.Goals as goal

@@ -6,7 +6,7 @@ use Rattle.std.proofs.lemmas.Result.{IfOk-weaker}
 use Rattle.label_patterns.specs.Sets.{is_in}
 use Rattle.lgr_text.specs.CodePoints.{IsSpan}
 use Rattle.lgr_text.specs.Records.{entry}
-use Rattle.lgr_table.specs.Meanings.{IsKept}
+use Rattle.lgr_text.specs.Meanings.{IsKept}
 use Rattle.lgr_table.specs.Tables.{may_stand}
 use Rattle.lgr_table.proofs.PointLemmas.{all-spans, all_spans, are-kept}
 use Rattle.lgr_table.proofs.points.points_of.Goals as goal

@@ -9,7 +9,7 @@ use Rattle.lgr_text.specs.DefinitionOrder.{IsOrder, IsOrderFault}
 use Rattle.lgr_text.specs.Records.{definition, entry}
 use Rattle.lgr_text.specs.declared.records.Definition.{Definition as Held}
 use Rattle.lgr_text.specs.declared.records.Entry.{Entry as HeldEntry}
-use Rattle.lgr_table.specs.Meanings.{IsKept}
+use Rattle.lgr_text.specs.Meanings.{IsKept}
 use Rattle.lgr_table.specs.Tables.{may_stand}
 use Rattle.lgr_table.specs.inner.RuleSteps.{known_by}
 use Rattle.lgr_table.specs.inner.TableNames.{AreRuleNames}

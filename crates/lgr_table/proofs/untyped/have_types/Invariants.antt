@@ -1,6 +1,6 @@
 use Rattle.std.proofs.Common.{◌≡◌, false, map, take}
 use Rattle.lgr_text.specs.Records.{entry}
-use Rattle.lgr_table.specs.Entries.{has_types}
+use Rattle.lgr_text.specs.Repertoire.{has_types}
 use Rattle.lgr_table.proofs.untyped.have_types.Given as goal
 
 -- none before this one has a variant with a type

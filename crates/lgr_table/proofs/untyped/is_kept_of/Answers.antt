@@ -1,6 +1,6 @@
 use Rattle.std.proofs.Common.{sym, ap, ◌∙◌}
 use Rattle.lgr_text.specs.Records.{variant}
-use Rattle.lgr_table.specs.Entries.{may_be}
+use Rattle.lgr_text.specs.Repertoire.{may_be}
 use Rattle.lgr_table.specs.Tables.{may_stand}
 use Rattle.lgr_table.specs.inner.Wanted.{is_wanted}
 use Rattle.lgr_table.proofs.KeptLemmas.{first-fails, keeps-alone, last-fails, only-second}

@@ -4,7 +4,7 @@ use Rattle.idn_class.specs.declared.properties.Properties.{Properties}
 use Rattle.lgr_text.specs.Records.{source, variant}
 use Rattle.lgr_text.specs.Records as lgr
 use Rattle.lgr_text.specs.declared.records.Entry.{Entry}
-use Rattle.lgr_table.specs.Entries.{sources}
+use Rattle.lgr_text.specs.Repertoire.{sources}
 use Rattle.lgr_table.specs.Tables.{may_stand}
 use Rattle.lgr_table.specs.declared.untyped.Wanted.{Wanted}
 use Rattle.lgr_table.specs.inner.Wanted.{keeps_with}

@@ -1,7 +1,7 @@
 use Rattle.std.proofs.Common.{◌≡◌, false, map, take}
 use Rattle.std.specs.List.{list_any}
 use Rattle.lgr_text.specs.Records.{source, variant}
-use Rattle.lgr_table.specs.Entries.{sources}
+use Rattle.lgr_text.specs.Repertoire.{sources}
 use Rattle.lgr_table.specs.Tables.{may_stand}
 use Rattle.lgr_table.specs.inner.Wanted.{keeps_with}
 use Rattle.lgr_table.proofs.untyped.kept_in.Given as goal

@@ -1,4 +1,4 @@
-use Rattle.std.proofs.Common.{◌≡◌, ◌||◌, true, [], map, Some, None, refl, sym, ap, subst, ◌∙◌, if◌then◌else◌}
+use Rattle.std.proofs.Common.{◌≡◌, ◌||◌, false, true, [], map, Some, None, refl, sym, ap, subst, ◌∙◌, if◌then◌else◌}
 use Rattle.std.proofs.lemmas.Result.{IfOk-weaker}
 use Rattle.std.specs.Option.{option_or}
 use Rattle.std.specs.declared.alloc.Global
@@ -7,7 +7,7 @@ use Rattle.label_patterns.specs.Patterns as patterns
 use Rattle.label_patterns.specs.Trees.{pattern}
 use Rattle.lgr_text.specs.Known.{known as known_of, Known}
 use Rattle.lgr_text.specs.LabelEnds.{begins_label, ends_label}
-use Rattle.lgr_text.specs.PartMatches.{has_anchor, part_fault, rule_named, times_fault}
+use Rattle.lgr_text.specs.PartMatches.{has_anchor, part_fault, rule_named, then_fault, times_fault}
 use Rattle.lgr_text.specs.Records.{part as part_of, Part, Then, Choice, OfRule}
 use Rattle.lgr_text.specs.declared.records.PartTree.{PartTree}
 use Rattle.lgr_text.specs.declared.records.PartTree.TheVariants as tree
@@ -15,7 +15,8 @@ use Rattle.lgr_text.specs.declared.records.Reference.{Reference}
 use Rattle.lgr_text.specs.declared.rule_error.RuleFault.TheVariants.{Misplaced, NotSupported}
 use Rattle.lgr_text.specs.inner.Branches.{followed, preceded}
 use Rattle.lgr_text.proofs.BranchLemmas.{MakesRule, anchor-made, choice-made, followed-made, named-made, preceded-made}
-use Rattle.lgr_text.proofs.PartLemmas.{AppendsPart}
+use Rattle.lgr_text.specs.inner.Items.{Appends, Follows}
+use Rattle.lgr_text.proofs.PartLemmas.{parts-apart}
 use Rattle.lgr_text.proofs.branches.+anchored_pattern.Goals as goal
 
 pub returns-then-has_anchor-clause-branches : goal.returns-then-has_anchor-clause-branches
@@ -31,11 +32,11 @@ returns-then-has_anchor-clause-branches t c =
     ∙ ap (λ q. Then (part_of first) (part_of q)) (sym c.deref-then-has_anchor-2.ensures) in
     let old = c.args.sets.now.items in
     let between = c.anchored_pattern.new.sets.items in
-    let new = c.push_part.new.sets.items in
-    let items = map pattern c.push_part.new.items.items in
+    let new = c.push_following.new.sets.items in
+    let items = map pattern c.push_following.new.items.items in
     let inner = pattern c.in_ok-tree-in-Then.tree in
-    let after : AppendsPart known between new [] items (part_of rest) =
-    subst (λ l. AppendsPart known between new (map pattern l) items (part_of rest)) c.new-items.ensures.items c.in_ok-push_part-in-Then.ensures.items in
+    let after : Follows known between new [] items (part_of rest) =
+    subst (λ l. Follows known between new (map pattern l) items (part_of rest)) c.new-items.ensures.items c.in_ok-push_following-in-Then.ensures.items in
     let made : MakesRule known true old new (followed items inner) (Then (part_of first) (part_of rest)) =
     followed-made known (part_of first) (part_of rest) old between new items inner c.in_ok-tree-in-Then.ensures.branches after in
     IfOk-weaker c.followed.result (λ row. pattern row ≡ followed (map pattern given) inner) (λ row. MakesRule known true old new (pattern row) part)
@@ -43,6 +44,12 @@ returns-then-has_anchor-clause-branches t c =
     (subst (λ p. MakesRule known true old new p (Then (part_of first) (part_of rest)))
     (sym (e ∙ ap (λ l. followed (map pattern l) inner) c.deref-then-has_anchor-3.ensures.value)) made))
     c.followed.ensures.tree
+
+pub push_following-requires-clause-start : goal.push_following-requires-clause-start
+push_following-requires-clause-start t c =
+    let known = known_of c.args.known in
+    let apart = parts-apart known (part_of c.deref.result.now) (part_of c.deref-in-Then.result.now) c.in_ok-check_then-in-Then.ensures in
+    subst (λ q. begins_label (rule_named known) (part_of q) ≡ false) (c.deref-in-Then.ensures ∙ sym c.deref-then-has_anchor-2.ensures) apart.1
 
 pub returns-in-Then-clause-branches : goal.returns-in-Then-clause-branches
 returns-in-Then-clause-branches t c =
@@ -56,14 +63,18 @@ returns-in-Then-clause-branches t c =
     ∙ ap (λ q. Then (part_of q) (part_of c.in-Then.rest.value)) (sym c.deref-else-has_anchor.ensures)
     ∙ ap (λ q. Then (part_of first) (part_of q)) (sym c.deref-else-has_anchor-2.ensures) in
     let old = c.args.sets.now.items in
-    let between = c.push_part-else-has_anchor.new.sets.items in
+    let between = c.push_part.new.sets.items in
     let new = c.anchored_pattern-else-has_anchor.new.sets.items in
-    let items = map pattern c.push_part-else-has_anchor.new.items.items in
+    let items = map pattern c.push_part.new.items.items in
     let inner = pattern c.in_ok-tree-in-Then-2.tree in
-    let before : AppendsPart known old between [] items (part_of first) =
-    subst (λ l. AppendsPart known old between (map pattern l) items (part_of first)) c.new-items.ensures.items c.in_ok-push_part-in-Then-2.ensures.items in
+    let before : Appends known old between [] items (part_of first) =
+    subst (λ l. Appends known old between (map pattern l) items (part_of first)) c.new-items.ensures.items c.in_ok-push_part-in-Then.ensures.items in
+    let sound : then_fault known (part_of first) (part_of rest) ≡ None =
+    subst (λ q. then_fault known (part_of q) (part_of rest) ≡ None) (c.deref.ensures ∙ sym c.deref-else-has_anchor.ensures)
+    (subst (λ q. then_fault known (part_of c.deref.result.now) (part_of q) ≡ None)
+    (c.deref-in-Then.ensures ∙ sym c.deref-else-has_anchor-2.ensures) c.in_ok-check_then-in-Then.ensures) in
     let made : MakesRule known true old new (preceded items inner) (Then (part_of first) (part_of rest)) =
-    preceded-made known (part_of first) (part_of rest) old between new items inner before c.in_ok-tree-in-Then-2.ensures.branches in
+    preceded-made known (part_of first) (part_of rest) old between new items inner sound before c.in_ok-tree-in-Then-2.ensures.branches in
     IfOk-weaker c.preceded.result (λ row. pattern row ≡ preceded (map pattern given) inner) (λ row. MakesRule known true old new (pattern row) part)
     (λ row e. subst (MakesRule known true old new (pattern row)) (sym is)
     (subst (λ p. MakesRule known true old new p (Then (part_of first) (part_of rest)))

@@ -8,6 +8,7 @@ use Rattle.lgr_text.specs.PartMatches.{BeginsWith, MatchesAsPart, SaysRule}
 use Rattle.lgr_text.specs.Records.{part as part_of}
 use Rattle.lgr_text.specs.inner.Branches.{HasBranches}
 use Rattle.lgr_text.proofs.BranchLemmas.{MakesRule, branches-are, branches-have, branches-match, branches-say}
+use Rattle.lgr_text.proofs.PlaceLemmas.{branches-form, IsRulePattern}
 use Rattle.lgr_text.proofs.branches.pattern_of_rule.Goals as goal
 
 pub returns-then-has_anchor-clause-known : goal.returns-then-has_anchor-clause-known
@@ -100,3 +101,21 @@ returns-else-has_anchor-clause-sets c =
     let last = c.plain_pattern.new.sets.items in
     on-ok c.plain_pattern.result (λ tree. MakesRule (known_of c.args.known) false first last (pattern tree) (part_of c.args.rule.now))
     (BeginsWith last first) (λ tree made. made.kept) c.plain_pattern.ensures.branches
+
+pub returns-then-has_anchor-clause-form : goal.returns-then-has_anchor-clause-form
+returns-then-has_anchor-clause-form c =
+    let known = known_of c.args.known in
+    let rule = part_of c.args.rule.now in
+    let first = c.args.made.now.sets.items in
+    let last = c.anchored_pattern.new.sets.items in
+    IfOk-weaker c.anchored_pattern.result (λ tree. MakesRule known true first last (pattern tree) rule) (λ tree. IsRulePattern (pattern tree))
+    (λ tree made. branches-form (pattern tree) (branches-are known true rule first last (pattern tree) made)) c.anchored_pattern.ensures.branches
+
+pub returns-else-has_anchor-clause-form : goal.returns-else-has_anchor-clause-form
+returns-else-has_anchor-clause-form c =
+    let known = known_of c.args.known in
+    let rule = part_of c.args.rule.now in
+    let first = c.args.made.now.sets.items in
+    let last = c.plain_pattern.new.sets.items in
+    IfOk-weaker c.plain_pattern.result (λ tree. MakesRule known false first last (pattern tree) rule) (λ tree. IsRulePattern (pattern tree))
+    (λ tree made. branches-form (pattern tree) (branches-are known false rule first last (pattern tree) made)) c.plain_pattern.ensures.branches

@@ -29,6 +29,7 @@ returns t c =
     let left = pattern c.in_ok-left.left in
     let right = pattern c.in_ok-right.right in
     let chosen : AddsChoice c.args.spans.now old new (Either left right) =
-    either-chosen c.args.spans.now first others old between new left right (sym c.split_at.ensures.by_index.0) c.in_ok-left.ensures c.in_ok-right.ensures in
+    either-chosen c.args.spans.now first others old between new left right (sym c.split_at.ensures.by_index.0) c.in_ok-left.ensures.atom
+    c.in_ok-left.ensures.sets c.in_ok-right.ensures in
     IfOk-weaker c.either.result (λ tree. pattern tree ≡ Either left right) (λ tree. AddsChoice c.args.spans.now old new (pattern tree))
     (λ tree e. subst (AddsChoice c.args.spans.now old new) (sym e) chosen) c.either.ensures

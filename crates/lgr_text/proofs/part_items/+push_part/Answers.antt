@@ -1,10 +1,11 @@
-use Rattle.std.proofs.Common.{◌≡◌, true, false, [], map, refl, sym, ap, subst, ◌∙◌}
+use Rattle.std.proofs.Common.{◌≡◌, None, true, false, [], map, refl, sym, ap, subst, ◌∙◌}
 use Rattle.std.proofs.lemmas.Result.{on_ok_weaker}
 use Rattle.label_patterns.specs.Trees.{pattern}
 use Rattle.lgr_text.specs.Known.{known as known_of}
-use Rattle.lgr_text.specs.PartMatches.{has_anchor, name_fault, IsWellFormed}
+use Rattle.lgr_text.specs.PartMatches.{has_anchor, name_fault, then_fault, times_fault, IsWellFormed}
 use Rattle.lgr_text.specs.Records.{class as class_of, part as part_of, Literal, Then, Choice, Times, OfRule}
-use Rattle.lgr_text.proofs.PartLemmas.{choice-part, class-kept, class-part, literal-part, then-part, times-part, AppendsPart, any-part, end-part, start-part, rule-part, told-none}
+use Rattle.lgr_text.specs.inner.Items.{Appends}
+use Rattle.lgr_text.proofs.PartLemmas.{choice-part, class-kept, class-part, literal-part, then-part, times-part, any-part, end-part, start-part, rule-part, told-none}
 use Rattle.lgr_text.proofs.SetNumberLemmas.{sets-stay}
 use Rattle.lgr_text.proofs.part_items.+push_part.Goals as goal
 
@@ -12,7 +13,7 @@ pub returns-in-Literal-clause-items : goal.returns-in-Literal-clause-items
 returns-in-Literal-clause-items t c =
     let is : part_of c.args.part.now ≡ Literal c.deref.result.now = ap part_of c.in-Literal.is ∙ ap Literal (sym c.deref.ensures.value) in
     on_ok_weaker c.push_literal.result
-    (λ e. literal-part c.args.side (known_of c.args.known) c.args.sets.now.items c.args.sets.now.items
+    (λ e. literal-part (known_of c.args.known) c.args.sets.now.items c.args.sets.now.items
     (map pattern c.args.items.now.items) (map pattern c.push_literal.new.items.items) c.deref.result.now (part_of c.args.part.now) is
     refl e)
     c.push_literal.ensures.items
@@ -20,7 +21,7 @@ returns-in-Literal-clause-items t c =
 pub returns-in-Of-clause-items : goal.returns-in-Of-clause-items
 returns-in-Of-clause-items t c =
     on_ok_weaker c.push_class.result
-    (λ adds. class-part c.args.side (known_of c.args.known) (class_of c.in-Of.class) c.args.sets.now.items c.push_class.new.sets.items
+    (λ adds. class-part (known_of c.args.known) (class_of c.in-Of.class) c.args.sets.now.items c.push_class.new.sets.items
     (map pattern c.args.items.now.items) (map pattern c.push_class.new.items.items) (part_of c.args.part.now) (ap part_of c.in-Of.is) adds)
     c.push_class.ensures.items
 
@@ -33,11 +34,15 @@ returns-in_ok-push_part-in-Then-clause-items t c =
     ap part_of c.in-Then.is
     ∙ ap (λ q. Then (part_of q) (part_of c.in-Then.rest.value)) (sym c.deref-in-Then-3.ensures)
     ∙ ap (λ q. Then (part_of first) (part_of q)) (sym c.deref-in-Then-4.ensures) in
+    let sound : then_fault (known_of c.args.known) (part_of first) (part_of rest) ≡ None =
+    subst (λ q. then_fault (known_of c.args.known) (part_of q) (part_of rest) ≡ None) (c.deref-in-Then.ensures ∙ sym c.deref-in-Then-3.ensures)
+    (subst (λ q. then_fault (known_of c.args.known) (part_of c.deref-in-Then.result.now) (part_of q) ≡ None)
+    (c.deref-in-Then-2.ensures ∙ sym c.deref-in-Then-4.ensures) c.in_ok-check_then-in-Then.ensures) in
     on_ok_weaker c.push_part-in-Then.result
     (λ right. then-part (known_of c.args.known) (part_of first) (part_of rest) (part_of c.args.part.now)
     c.args.sets.now.items c.push_part.new.sets.items c.push_part-in-Then.new.sets.items
     (map pattern c.args.items.now.items) (map pattern c.push_part.new.items.items) (map pattern c.push_part-in-Then.new.items.items)
-    is c.in_ok-push_part-in-Then.ensures.items right)
+    is sound c.in_ok-push_part-in-Then.ensures.items right)
     c.push_part-in-Then.ensures.items
 
 pub returns-in_ok-push_part-in-Choice-2-clause-items :
@@ -55,10 +60,10 @@ returns-in_ok-push_part-in-Choice-2-clause-items t c =
     let first = c.args.sets.now.items in
     let middle = c.push_part-in-Choice.new.sets.items in
     let last = c.push_part-in-Choice-2.new.sets.items in
-    let made_left : AppendsPart known first middle [] left_items (part_of left) =
-    subst (λ l. AppendsPart known first middle (map pattern l) left_items (part_of left)) c.new-left_items.ensures.items c.in_ok-push_part-in-Choice.ensures.items in
-    let made_right : AppendsPart known middle last [] right_items (part_of right) =
-    subst (λ l. AppendsPart known middle last (map pattern l) right_items (part_of right)) c.new-right_items.ensures.items c.in_ok-push_part-in-Choice-2.ensures.items in
+    let made_left : Appends known first middle [] left_items (part_of left) =
+    subst (λ l. Appends known first middle (map pattern l) left_items (part_of left)) c.new-left_items.ensures.items c.in_ok-push_part-in-Choice.ensures.items in
+    let made_right : Appends known middle last [] right_items (part_of right) =
+    subst (λ l. Appends known middle last (map pattern l) right_items (part_of right)) c.new-right_items.ensures.items c.in_ok-push_part-in-Choice-2.ensures.items in
     on_ok_weaker c.push_choice.result
     (λ e. choice-part known (part_of left) (part_of right) (part_of c.args.part.now) first middle last last
     (map pattern c.args.items.now.items) (map pattern c.push_choice.new.items.items) left_items right_items is
@@ -76,12 +81,14 @@ returns-in_ok-push_part-in-Times-clause-items t c =
     let once = map pattern c.push_part-in-Times.new.items.items in
     let first = c.args.sets.now.items in
     let last = c.push_part-in-Times.new.sets.items in
-    let made : AppendsPart known first last [] once (part_of inner) =
-    subst (λ l. AppendsPart known first last (map pattern l) once (part_of inner)) c.new-once.ensures.items c.in_ok-push_part-in-Times.ensures.items in
+    let made : Appends known first last [] once (part_of inner) =
+    subst (λ l. Appends known first last (map pattern l) once (part_of inner)) c.new-once.ensures.items c.in_ok-push_part-in-Times.ensures.items in
+    let sound : times_fault known (part_of inner) ≡ None =
+    subst (λ q. times_fault known (part_of q) ≡ None) (c.deref-in-Times.ensures ∙ sym c.deref-in-Times-2.ensures) c.in_ok-check_times-in-Times.ensures in
     on_ok_weaker c.push_times.result
     (λ e. times-part known c.in-Times.count (part_of inner) (part_of c.args.part.now) first last last
     (map pattern c.args.items.now.items) (map pattern c.push_times.new.items.items) once is
-    refl well.0 made e)
+    refl sound well.0 made e)
     c.push_times.ensures.items
 
 pub returns-in-OfRule-clause-items : goal.returns-in-OfRule-clause-items
@@ -124,7 +131,7 @@ pub returns-in-Of-clause-rules : goal.returns-in-Of-clause-rules
 returns-in-Of-clause-rules t c =
     on_ok_weaker c.push_class.result
     (λ adds. sets-stay c.push_class.new.sets.items c.args.sets.now.items (map pattern c.args.known.rules.now)
-    (class-kept c.args.side (known_of c.args.known) (class_of c.in-Of.class) c.args.sets.now.items c.push_class.new.sets.items
+    (class-kept (known_of c.args.known) (class_of c.in-Of.class) c.args.sets.now.items c.push_class.new.sets.items
     (map pattern c.args.items.now.items) (map pattern c.push_class.new.items.items) adds)
     c.requires.rules)
     c.push_class.ensures.items

@@ -34,7 +34,7 @@ returns-clause-items c =
     (λ e. inl (record {
       item = item;
       is = e;
-      shape = subst (λ p. HasShape false (p ∷ [])) (sym c.in_ok-item.ensures) (atom-shape tree);
+      shape = subst (λ p. HasShape false (p ∷ [])) (sym c.in_ok-item.ensures) (atom-shape tree c.in_ok-choice.ensures.form c.in_ok-choice.ensures.free);
       spans = spans;
       choice = atom-chosen spans c.args.sets.now.items c.choice_of_sets.new.sets.items tree item c.in_ok-item.ensures c.in_ok-choice.ensures;
       members = members;

@@ -1,10 +1,8 @@
 use Rattle.std.proofs.Common.{ap, sym, subst, ◌≡◌, ◌∙◌, None}
 use Rattle.idn2_options.specs.Settings.{Settings, keeping}
-use Rattle.idn2_cli.specs.Ends.{mode_job}
+use Rattle.idn2_cli.proofs.RunEnds.{runs_as}
 use Rattle.idn2_answers.proofs.AdmittedLabels.{sound_table}
-use Rattle.idn2_answers.specs.Transcript.{IsTableOf}
 use Rattle.idn2_cli.proofs.BlockMembers.{HasRising, variants_answer-IsListing}
-use Rattle.idn2_cli.proofs.RunEnds.{ends_as}
 use Rattle.idn2_cli.proofs.HeadlineLemmas.{headline}
 use Rattle.idn2_cli.proofs.TableLemmas.{formed}
 use Rattle.idn2_cli.proofs.session.run.run.Goals as goal
@@ -15,16 +13,13 @@ whole_rises o none = subst HasRising (ap (λ (v : Settings). v.registered) none)
 
 pub returns-clause-ends : goal.returns-clause-ends
 returns-clause-ends g c =
-    let ended = c.run_among.ensures.ends in
     let none : keeping None c.args.options.now ≡ c.args.options.now = ap (keeping None) (sym c.options.view_is) ∙ c.options.view_is in
-    (ended.0, subst (λ (o : Settings). IsTableOf o c.args.table.now ended.0) none ended.1, ends_as _ _ _ _ _ _ c.run_among.result (ap (λ (o : Settings). mode_job o ended.0) none) ended.2)
+    runs_as _ _ c.args.table.now _ _ _ _ c.run_among.result none c.run_among.ensures.ends
 
 pub returns-clause-headline : goal.returns-clause-headline
 returns-clause-headline g c = λ asks.
-    let ended = c.run_among.ensures.ends in
     let none : keeping None c.args.options.now ≡ c.args.options.now = ap (keeping None) (sym c.options.view_is) ∙ c.options.view_is in
-    headline c.args.options.now _ ended.0 _ _ _ _ c.run_among.result (whole_rises c.args.options.now none) asks (subst (λ (o : Settings). IsTableOf o c.args.table.now ended.0) none ended.1)
-    (ends_as _ _ _ _ _ _ c.run_among.result (ap (λ (o : Settings). mode_job o ended.0) none) ended.2)
+    headline c.args.options.now _ _ _ _ _ _ (whole_rises c.args.options.now none) asks c.requires.unread (returns-clause-ends g c)
 
 pub returns-clause-listing : goal.returns-clause-listing
 returns-clause-listing g c = λ table label given registrable. variants_answer-IsListing c.args.options.now table label (sound_table table (formed c.args.options.now.properties c.args.options.now.notation c.args.table.now table given)) (whole_rises c.args.options.now (ap (keeping None) (sym c.options.view_is) ∙ c.options.view_is)) registrable

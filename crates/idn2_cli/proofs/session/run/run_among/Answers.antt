@@ -2,7 +2,7 @@ use Rattle.std.proofs.Common.{ap, sym, ◌∙◌, rules}
 use Rattle.std.specs.Option.{option_copied}
 use Rattle.idn2_options.specs.Settings.{keeping}
 use Rattle.idn2_output.specs.Writing.{Held}
-use Rattle.idn2_cli.proofs.LentWriters.{same_loans, given_back}
+use Rattle.idn2_cli.proofs.LentWriters.{lent_back, run_back}
 use Rattle.idn2_cli.proofs.HeadlineLemmas.{headline}
 use Rattle.idn2_cli.proofs.TableLemmas.{formed}
 use Rattle.idn2_answers.proofs.AdmittedLabels.{sound_table}
@@ -13,19 +13,15 @@ use Rattle.idn2_cli.proofs.session.run.run_among.Goals as goal
 pub returns-clause-ends : goal.returns-clause-ends
 returns-clause-ends g c =
     let ended = c.serve-status.ensures in
-    let same = same_loans _ _ _ _ _ _ ended.2 in
+    let same = lent_back _ _ _ _ _ _ _ ended in
     let output = sym (ap (λ (h : Held). h.output_loan) c.console.view_is ∙ same.0) in
-    let messages = sym (ap (λ (h : Held). h.messages_loan) c.console.view_is ∙ same.1) in (
-      ended.0,
-      ended.1,
-      given_back _ _ _ _ _ _ _ _ (ap g.W.Sink.state (search (rules, output)) ∙ ap (λ (h : Held). h.output) c.console.view_is)
-          (ap g.E.Sink.state (search (rules, messages)) ∙ ap (λ (h : Held). h.messages) c.console.view_is) ended.2,
-    )
+    let messages = sym (ap (λ (h : Held). h.messages_loan) c.console.view_is ∙ same.1) in
+    run_back _ _ _ _ _ _ _ _ _ (ap g.W.Sink.state (search (rules, output)) ∙ ap (λ (h : Held). h.output) c.console.view_is)
+    (ap g.E.Sink.state (search (rules, messages)) ∙ ap (λ (h : Held). h.messages) c.console.view_is) ended
 
 pub returns-clause-headline : goal.returns-clause-headline
 returns-clause-headline g c = λ asks.
-    let ended = returns-clause-ends g c in
-    headline (keeping (option_copied c.args.registered) c.args.options.now) _ ended.0 _ _ _ _ _ (rising_some c.args.options.now.properties (option_copied c.args.registered) c.requires.registered) asks ended.1 ended.2
+    headline (keeping (option_copied c.args.registered) c.args.options.now) _ _ _ _ _ _ (rising_some c.args.options.now.properties (option_copied c.args.registered) c.requires.registered) asks c.requires.unread (returns-clause-ends g c)
 
 pub returns-clause-listing : goal.returns-clause-listing
 returns-clause-listing g c = λ table label given registrable. variants_answer-IsListing (keeping (option_copied c.args.registered) c.args.options.now) table label (sound_table table (formed c.args.options.now.properties c.args.options.now.notation c.args.table.now table given)) (rising_some c.args.options.now.properties (option_copied c.args.registered) c.requires.registered) registrable

@@ -1,4 +1,4 @@
-use Rattle.std.proofs.Common.{Ok, ap, sym, subst, ◌∙◌}
+use Rattle.std.proofs.Common.{inl, Ok, ap, sym, subst, ◌∙◌}
 use Rattle.std.specs.Option.{option_copied}
 use Rattle.idn2_options.specs.Settings.{Settings, keeping, tells_causes}
 use Rattle.idn2_options.specs.declared.command_line.form.Form.{Form}
@@ -19,7 +19,7 @@ returns-in-Err g c =
 pub returns-in-Check : goal.returns-in-Check
 returns-in-Check g c =
     let o : Settings = c.args.settings.now in
-    let seen = ap (keeping (option_copied c.settings.inside.registered)) c.options.view_is ∙ c.settings.view_is in (
+    let seen = ap (keeping (option_copied c.settings.inside.registered)) c.options.view_is ∙ c.settings.view_is in inl (
       Ok c.in-Ok.table,
       checked_read o c.args.text.now (Ok c.in-Ok.table) (c.requires.mode ∙ ap mode_of c.in-Check.is) (subst (λ (v : Settings). IsTableIn v.properties v.notation c.args.text.now c.in-Ok.table) seen c.in-Ok.ensures.table),
       checked o c.in-Ok.table _ _ _ c.check_table.result (c.requires.mode ∙ ap mode_of c.in-Check.is) c.requires.unread
@@ -31,7 +31,7 @@ pub returns-in-None : goal.returns-in-None
 returns-in-None g c =
     let o : Settings = c.args.settings.now in
     let seen = ap (keeping (option_copied c.settings.inside.registered)) c.options.view_is ∙ c.settings.view_is in
-    let whole = sym (ap (λ (v : Settings). v.registered) c.settings.view_is) ∙ ap option_copied c.in-None.is in (
+    let whole = sym (ap (λ (v : Settings). v.registered) c.settings.view_is) ∙ ap option_copied c.in-None.is in inl (
       Ok c.in-Ok.table,
       listed_read o c.args.text.now (Ok c.in-Ok.table) (c.requires.mode ∙ ap mode_of c.in-Variants.is) whole (subst (λ (v : Settings). IsTableIn v.properties v.notation c.args.text.now c.in-Ok.table) seen c.in-Ok.ensures.table),
       c.serve_variants.ensures,
@@ -40,7 +40,7 @@ returns-in-None g c =
 pub returns : goal.returns
 returns g c =
     let o : Settings = c.args.settings.now in
-    let seen = ap (keeping (option_copied c.settings.inside.registered)) c.options.view_is ∙ c.settings.view_is in (
+    let seen = ap (keeping (option_copied c.settings.inside.registered)) c.options.view_is ∙ c.settings.view_is in inl (
       Ok c.in-Ok.table,
       printed_read o c.args.text.now (Ok c.in-Ok.table) (c.requires.mode ∙ ap mode_of c.in-Print.is) (subst (λ (v : Settings). IsTableIn v.properties v.notation c.args.text.now c.in-Ok.table) seen c.in-Ok.ensures.table),
       printed o c.in-Ok.table _ _ _ c.print_table.result (c.requires.mode ∙ ap mode_of c.in-Print.is) c.requires.unread c.print_table.ensures.written c.print_table.ensures.status,

@@ -1,12 +1,9 @@
-use Rattle.std.proofs.Common.{◌≡◌, ℕ, List, Err, Ok, None, ◌∷◌, [], refl, sym, ap, subst, ◌∙◌}
+use Rattle.std.proofs.Common.{inl, Err, Ok, None, ◌∷◌, [], refl, sym, ap, subst, ◌∙◌}
 use Rattle.std.specs.Option.{option_copied}
 use Rattle.std.proofs.lemmas.Result.{err_from_is_err_and}
 use Rattle.idn_text.specs.declared.refusal.Refusal.TheVariants as refusals
 use Rattle.idn_class.specs.declared.properties.Properties.{Properties}
 use Rattle.variant_table.specs.declared.version.Notation.{Notation}
-use Rattle.variant_table.specs.Entries.{TableValue}
-use Rattle.variant_table.specs.Texts.{IsLineOfEntry, IsTextOf}
-use Rattle.variant_list.specs.Reversed.{IsCrowdedAt}
 use Rattle.idn2_options.specs.Settings.{Settings, keeping}
 use Rattle.idn2_options.specs.declared.command_line.form.Form.{Form}
 use Rattle.idn2_output.specs.Writing.{Emits}
@@ -54,14 +51,14 @@ returns-in_err-dispositions-clause-serves g c =
     search_stopped c.args.settings.now (option_copied c.args.among) c.args.text.now _ _ _ c.requires.mode c.requires.among c.requires.unread (p.1 ∙ ap Err p.2)
 
 pub returns-in-Some-clause-serves : goal.returns-in-Some-clause-serves
-returns-in-Some-clause-serves g c = (
+returns-in-Some-clause-serves g c = inl (
   Ok c.args.table.now,
   searched_read c.args.settings.now c.args.text.now (Ok c.args.table.now) (option_copied c.args.among) c.requires.mode c.requires.among (c.requires.given, λ crowd. c.in-Ok.ensures.uncrowded crowd.0 crowd.1),
   does_anywhere _ _ _ _ _ _ c.serve_among.ensures,
 )
 
 pub returns-clause-serves : goal.returns-clause-serves
-returns-clause-serves g c = (
+returns-clause-serves g c = inl (
   Ok c.args.table.now,
   searched_read c.args.settings.now c.args.text.now (Ok c.args.table.now) (option_copied c.args.among) c.requires.mode c.requires.among (c.requires.given, λ crowd. c.in-Ok.ensures.uncrowded crowd.0 crowd.1),
   does_anywhere _ _ _ _ _ _ c.serve_jumps.ensures,

@@ -1,6 +1,5 @@
 use Rattle.std.proofs.Common.{rules, ◌≡◌, ◌+◌, false, Some, List, [], length, get_or, refl, sym, subst}
 use Rattle.xml_text.specs.Attributes.{is_named}
-use Rattle.xml_text.specs.inner.Gathering.{gathered}
 use Rattle.xml_text.specs.inner.Runs.{IsPlainValue, IsTaken}
 use Rattle.xml_text.specs.inner.TagSteps.{State, state, step, with_attribute, with_attribute_of}
 use Rattle.xml_text.specs.declared.state.Phase.TheVariants as phase
@@ -25,6 +24,8 @@ returns-in_default c =
     let len = c.len-len in
     let s = state c.args.self.now in
     let rest = c.args.rest.now in
+    let name = c.begin.new.self in
     let u = record s { attribute = []; value = []; phase = phase.Attribute } in
-    let read : IsTaken step (Some (with_attribute s (get_or rest 0 0))) rest len.result (record u { attribute = gathered c.begun.result }) = attribute_goes u rest len.result (gathered c.begun.result) refl len.ensures.some len.ensures.within len.ensures.run c.begun.ensures in
-    subst (λ (v : List _). IsTaken step (Some (with_attribute s (get_or rest 0 0))) rest len.result (record u { attribute = gathered c.begun.result; value = v })) (sym c.new.ensures) read
+    let read : IsTaken step (Some (with_attribute s (get_or rest 0 0))) rest len.result (record u { attribute = name }) =
+    attribute_goes u rest len.result name refl len.ensures.some len.ensures.within len.ensures.run c.begin.ensures in
+    subst (λ (v : List _). IsTaken step (Some (with_attribute s (get_or rest 0 0))) rest len.result (record u { attribute = name; value = v })) (sym c.clear.ensures) read

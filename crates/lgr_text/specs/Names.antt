@@ -1,4 +1,4 @@
--- The names that a file uses, and what each has to be (RFC 7940, sections 5.2, 6.1 and 7.1).
+-- The names that a file uses, and what each has to be (RFC 7940, sections 5.2, 6.2.1, 6.3.4 and 7.1).
 use Rattle.std.specs.Prelude.{◌≢◌, ℕ, ◌<◌, Option, Some, None, List, [], ◌∷◌, ◌++◌, All, AllPairs, Contains}
 use Rattle.std.specs.List.{flat_map}
 use Rattle.lgr_text.specs.Records.{Class, Condition, Meaning, Part, Ruleset}

@@ -1,15 +1,16 @@
 -- What the names of a file stand for: sets of code points, and parts of labels (RFC 7940, sections 6.2 and 6.3).
 use Rattle.std.specs.Prelude.{◌≡◌, ℕ, ◌≤◌, ◌↔◌, Bool, IsTrue, List, Option, Some, None, All, Contains, length}
 use Rattle.label_patterns.specs.Sets.{is_in}
-use Rattle.lgr_table.specs.Entries.{kept_sources}
-use Rattle.lgr_table.specs.Names.{all_classes}
+use Rattle.lgr_text.specs.Repertoire.{kept_sources}
+use Rattle.lgr_text.specs.Names.{all_classes}
 use Rattle.lgr_text.specs.ClassMembers.{class_fault, has, set_named}
 use Rattle.lgr_text.specs.Known.{Known}
 use Rattle.lgr_text.specs.PartMatches.{PartMatches, Place}
 use Rattle.lgr_text.specs.Records.{Class, Entry, IsClass, IsRule, Part, Ruleset}
 
--- the entries and the sets of named classes; and whether a named rule matches the part of a label from one place to
--- another, where the anchor stands for a part of the label: label, that part, name, from, to
+-- the entries and the sets of named classes (of what is known nothing else counts); and whether a named rule matches the
+-- part of a label from one place to another, where the anchor stands for a part of the label: label, that part, name,
+-- from, to
 pub record Meanings : Type 0 where
   pub known : Known
   pub matches : List ℕ → Option Place → List ℕ → ℕ → ℕ → Bool
@@ -19,18 +20,19 @@ abbrev pub Matches : Meanings → List ℕ → Option Place → Part → ℕ →
 Matches m label at p i j =
     PartMatches (has m.known) (λ place name k l. IsTrue (m.matches label place name k l)) label at p i j
 
--- a rule holds for the part from i to j: it matches some part of the label, where the anchor stands for that one (6.4)
+-- a rule holds for the part from i to j: it matches some part of the label, where the anchor stands for the one from
+-- i to j (6.4)
 abbrev pub RuleHolds : Meanings → Part → List ℕ → ℕ → ℕ → Type 0
 RuleHolds m rule label i j =
     (k : ℕ) × (l : ℕ) × (k ≤ length label) × Matches m label (Some (record { start = i; end = j })) rule k l
 
--- the code point stands in a source that a table keeps
+-- the code point stands in a source of the repertoire
 abbrev pub IsKept : (ℕ → Bool) → List Entry → ℕ → Type 0
 IsKept may entries c =
     (e : Entry) × (source : List ℕ) × Contains entries e × Contains (kept_sources may e) source × Contains source c
 
--- each name stands for what the definition of this name says, rules in labels of code points that the table has; and no
--- class asks for a tag that no entry has, or for a property that isn't known
+-- each name stands for what the definition of this name says, rules in labels of code points of the repertoire; and no
+-- class asks for a tag that no entry has, for a property that isn't known, or for a class that isn't there
 pub record AreMeaningsOf (may : ℕ → Bool) (r : Ruleset) (m : Meanings) : Type 0 where
   pub entries : m.known.entries ≡ r.entries
   pub classes : (name : List ℕ) (class : Class) (c : ℕ) → c ≤ 0x10FFFF
