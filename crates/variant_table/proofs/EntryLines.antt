@@ -1,6 +1,5 @@
 -- The line of an entry.
-use Rattle.std.proofs.Common.{◌≡◌, inl, inr, ℕ, ◌+◌, ◌<◌, ◌≤◌, List, [], ◌∷◌, ◌++◌, length, Some, Ok, refl, sym, ap, subst, ◌∙◌, append_assoc, arith, length-append}
-use Rattle.std.proofs.lemmas.Bool.{cases_lt}
+use Rattle.std.proofs.Common.{◌≡◌, ℕ, ◌+◌, ◌<◌, ◌≤◌, List, [], ◌∷◌, ◌++◌, length, Some, Ok, refl, sym, ap, subst, ◌∙◌, append_assoc, arith, length-append}
 use Rattle.std.specs.Str.Lines.{strip_carriage_return}
 use Rattle.idn_class.specs.declared.properties.Properties.{Properties}
 use Rattle.idn_text.specs.Lines.{raw_lines}
@@ -79,69 +78,3 @@ module _ (properties : Properties) (n : Notation) (text : List ℕ) where
   pub entry-somewhere : (table t : TableValue) (entry : ℕ) → IsTextOf properties n text table → entry < length table.entries → table_of_text properties n text ≡ Ok t → length t.entries ≤ entry → ⊥
   entry-somewhere table t entry spells within read all =
       omega (arith, within, all, ap (λ (x : TableValue). length x.entries) (whole_ok t table (table_of_text properties n text) read (text_read properties n text table spells)))
-
--- ---- each entry has a line
-
--- of some lines one has the entry
-record IsAmong (t : TableValue) (lines : List (List ℕ)) (entry : ℕ) : Type 0 where
-  before : List (List ℕ)
-  line : List ℕ
-  after : List (List ℕ)
-  earlier : TableValue
-  later : TableValue
-  cut : lines ≡ before ++ line ∷ after
-  spelled : LinesSpell t before earlier
-  added : LineAdds earlier (strip_carriage_return line) later
-  not_before : length earlier.entries ≤ entry
-  here : entry < length later.entries
-
-among-lines : (t table : TableValue) (lines : List (List ℕ)) (entry : ℕ) → LinesSpell t lines table → length t.entries ≤ entry → entry < length table.entries → IsAmong t lines entry
-among-lines t table [] entry same not_yet within = absurd (omega (arith, not_yet, within, ap (λ (x : TableValue). length x.entries) same))
-among-lines t table (line ∷ lines) entry spells not_yet within = elim (cases_lt entry (length (spells.0).entries)) [
-  | inl here ↦ record {
-    before = [];
-    line = line;
-    after = lines;
-    earlier = t;
-    later = spells.0;
-    cut = refl;
-    spelled = refl;
-    added = spells.1;
-    not_before = not_yet;
-    here = here;
-  }
-  | inr later ↦
-      let rest = among-lines spells.0 table lines entry spells.2 later within in
-      record {
-        before = line ∷ rest.before;
-        line = rest.line;
-        after = rest.after;
-        earlier = rest.earlier;
-        later = rest.later;
-        cut = ap (λ l. line ∷ l) rest.cut;
-        spelled = (spells.0, spells.1, rest.spelled);
-        added = rest.added;
-        not_before = rest.not_before;
-        here = rest.here;
-      }
-]
-
-pub has-line : (properties : Properties) (n : Notation) (text : List ℕ) (table : TableValue) (entry : ℕ) → IsTextOf properties n text table → entry < length table.entries
-    → (number : ℕ) × IsLineOfEntry n text table entry number
-has-line properties n text table entry spells within =
-    let at = among-lines (empty_table table.definitions.properties table.version) table (body_of n (raw_lines text)) entry spells.lines.spelled (omega arith) within in (
-      length (head_of n (raw_lines text)) + length at.before + 1,
-      record {
-        before = at.before;
-        line = at.line;
-        after = at.after;
-        earlier = at.earlier;
-        later = at.later;
-        cut = at.cut;
-        numbered = refl;
-        spelled = at.spelled;
-        added = at.added;
-        not_before = at.not_before;
-        here = at.here;
-      },
-    )
