@@ -119,9 +119,11 @@ module _ (properties : Properties) (r : Ruleset) (m : Meanings) (n : Numbering) 
     where
       by : (b : Bool) → is_reflexive p.source v ≡ b → list_any (λ (v : Variant). is_some v.type) (whole (entry p)) ≡ true
       by true is =
-          (any-one (λ (v : Variant). is_some v.type) (whole (entry p))).1
-          (source_of (entry p), Contains-head (source_of (entry p)) (entry p).variants,
-          ap (λ (o : Option ℕ). is_some o) (reflexive-is properties r m n t names says p v its there is) ∙ some)
+          (any-one (λ (v : Variant). is_some v.type) (whole (entry p))).1 (
+            source_of (entry p),
+            Contains-head (source_of (entry p)) (entry p).variants,
+            ap (λ (o : Option ℕ). is_some o) (reflexive-is properties r m n t names says p v its there is) ∙ some,
+          )
       by false other =
           (any-one (λ (v : Variant). is_some v.type) (whole (entry p))).1
           (variant_of n v, Contains-later (source_of (entry p)) (entry p).variants (variant_of n v) (variant-there properties r m n t names says p v there allowed other), some)
@@ -207,7 +209,7 @@ module _ (properties : Properties) (r : Ruleset) (m : Meanings) (n : Numbering) 
           let there = same (map put one) (map put other) (to-for properties r m n t names says label v one is) (to-for properties r m n t names says label v other also) (kind_with n rec) here in
           let found = (Contains-map (kind_with n) (map recorded other) (kind_with n rec)).0 (subst (λ (ks : List Kind). Contains ks (kind_with n rec)) other_kinds there) in
           let one_kind = kind-same (map recorded one) (map recorded other) (are-numbered properties r m n t names says one steps) (are-numbered properties r m n t names says other others)
-              rec found.0 c found.1 found.2 in
+          rec found.0 c found.1 found.2 in
           subst (Contains (map recorded other)) (sym one_kind) found.1)
 
       typed-back : has_types r.entries ≡ true → ((one other : List Step) → lgr.IsReading kept r m label v one → lgr.IsReading kept r m label v other

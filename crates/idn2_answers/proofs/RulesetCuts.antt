@@ -90,11 +90,14 @@ module _ (properties : Properties) (r : Ruleset) (m : Meanings) (n : Numbering) 
 
   pub from-joined : (segmentation : List Entry) (label : List ℕ) → AreJoined t segmentation label → (cut : List Piece) × lgr.AreJoined may r cut label × (segmentation ≡ map at cut)
   from-joined segmentation label are =
-      let p = pieces-are segmentation are.of_table in
-      (p.0, record {
-        of_repertoire = p.1;
-        joined = sym (joined-are p.0) ∙ ap (λ (es : List Entry). flat_map (λ (e : Entry). e.source) es) (sym p.2) ∙ are.joined;
-      }, p.2)
+      let p = pieces-are segmentation are.of_table in (
+        p.0,
+        record {
+          of_repertoire = p.1;
+          joined = sym (joined-are p.0) ∙ ap (λ (es : List Entry). flat_map (λ (e : Entry). e.source) es) (sym p.2) ∙ are.joined;
+        },
+        p.2,
+      )
 
   pub made-alike : (label : List ℕ) → IsMadeOfSources t label ↔ lgr.IsMadeOfSources may r label
   made-alike label = (
@@ -105,14 +108,13 @@ module _ (properties : Properties) (r : Ruleset) (m : Meanings) (n : Numbering) 
   -- ---- with conditions
 
   module _ (label : List ℕ) (made : IsOfSources t.entries label) where
-
     all-hold : (cut : List Piece) (place : ℕ) → AllByRecursion IsPiece cut → place + length (flat_map (λ (p : Piece). p.source) cut) ≤ length label
         → AllHold t.definitions.rules (seen_under t label) place (map at cut) ↔ lgr.AllHold r m label place cut
     all-hold [] place all fits = (λ h. tt, λ h. tt)
     all-hold (p ∷ cut) place all fits =
         let long = length-append p.source (flat_map (λ (p : Piece). p.source) cut) in
         let here = condition-holds r m n t names says.say_rules says.rules label made place (place + length p.source)
-            (omega (arith, fits)) (omega (arith, fits, long)) p.entry.condition (entry-rule p all.0) in
+        (omega (arith, fits)) (omega (arith, fits, long)) p.entry.condition (entry-rule p all.0) in
         let rest = all-hold cut (place + length p.source) all.1 (omega (arith, fits, long)) in
         (λ h. (here.0 h.0, rest.0 h.1), λ h. (here.1 h.0, rest.1 h.1))
 
@@ -199,12 +201,17 @@ module _ (properties : Properties) (r : Ruleset) (m : Meanings) (n : Numbering) 
       let Q = Contains t.entries in
       let A : Option numbered.Condition → ℕ → ℕ → Type 0 = λ c i j. Unit {0} in
       let stands : (i j : ℕ) → lgr.LongestLeads may r m label i j → EntryStands Q A label i j = λ i j h.
-          let p = h.0 in
-          let s = h.1.stands in
-          let fits = begins-within label i (at p) (filled p s.of_repertoire) s.there in
-          let e = h.2 in
-          (at p, its-entry p s.of_repertoire, omega (arith, e), omega (arith, e, fits),
-          ap (slice_range label i) e ∙ first-part label i p.source s.there.0 s.there.1, tt) in
+      let p = h.0 in
+      let s = h.1.stands in
+      let fits = begins-within label i (at p) (filled p s.of_repertoire) s.there in
+      let e = h.2 in (
+        at p,
+        its-entry p s.of_repertoire,
+        omega (arith, e),
+        omega (arith, e, fits),
+        ap (slice_range label i) e ∙ first-part label i p.source s.there.0 s.there.1,
+        tt,
+      ) in
       let cut = steps-cut Q A label (rounds-map (lgr.LongestLeads may r m label) (EntryStands Q A label) stands 0 (length label) eligible) in
       made-of cut.0 label (record { of_table = cut.1.each; joined = cut.1.joined })
 

@@ -140,10 +140,16 @@ module _ (properties : Properties) (r : Ruleset) (m : Meanings) (n : Numbering) 
   -- of a kept source some variant that may be is so
   pub kept-so : (is_so : List ℕ → records.Variant → Bool) (p : Piece) (v : records.Variant) → Its p → Contains p.entry.variants v → IsTrue (may_be kept v.points) → is_so p.source v ≡ true → keeps kept is_so r.entries ≡ true
   kept-so is_so p v its there allowed is =
-      (any-one (λ (e : records.Entry). list_any (λ (v : records.Variant). list_any (λ s. may_be kept v.points && is_so s v) (kept_sources kept e)) e.variants) r.entries).1
-      (p.entry, of-entries p its, (any-one (λ (v : records.Variant). list_any (λ s. may_be kept v.points && is_so s v) (kept_sources kept p.entry)) p.entry.variants).1
-      (v, there, (any-one (λ s. may_be kept v.points && is_so s v) (kept_sources kept p.entry)).1
-      (p.source, (entry-piece kept r p its).1, ap (λ b. b && is_so p.source v) allowed ∙ is)))
+      (any-one (λ (e : records.Entry). list_any (λ (v : records.Variant). list_any (λ s. may_be kept v.points && is_so s v) (kept_sources kept e)) e.variants) r.entries).1 (
+        p.entry,
+        of-entries p its,
+        (any-one (λ (v : records.Variant). list_any (λ s. may_be kept v.points && is_so s v) (kept_sources kept p.entry)) p.entry.variants).1 (
+          v,
+          there,
+          (any-one (λ s. may_be kept v.points && is_so s v) (kept_sources kept p.entry)).1
+              (p.source, (entry-piece kept r p its).1, ap (λ b. b && is_so p.source v) allowed ∙ is),
+        ),
+      )
 
   -- where something has a type, what stays by a variant of none has a type of its own
   reflexive-numbered : has_types r.entries ≡ true → (p : Piece) (v : records.Variant) → Its p → Contains p.entry.variants v → IsTrue (may_be kept v.points) → is_reflexive p.source v ≡ true

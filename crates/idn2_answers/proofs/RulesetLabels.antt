@@ -75,18 +75,22 @@ module _ (properties : Properties) (r : Ruleset) (m : Meanings) (n : Numbering) 
   module _ (label v : List ℕ) (made : Made v) (met : ¬ BreaksDemand r m v) where
     to-invalid : HasDisposition kept r m label v (codes "invalid") → HasOutcome t label v outcomes.Invalid
     to-invalid h =
-        let steps = steps-of properties r m n t names says label v h.0 h.1 in
-        (map put h.0, read_for label v h.0 h.1,
-        (invalid-alike properties r m n t names says v made (map recorded h.0) (kinds_of (map put h.0)) (same-kinds properties r m n t names says h.0 steps)
-        (are-numbered properties r m n t names says h.0 steps) met).0 h.2)
+        let steps = steps-of properties r m n t names says label v h.0 h.1 in (
+          map put h.0,
+          read_for label v h.0 h.1,
+          (invalid-alike properties r m n t names says v made (map recorded h.0) (kinds_of (map put h.0)) (same-kinds properties r m n t names says h.0 steps)
+              (are-numbered properties r m n t names says h.0 steps) met).0 h.2,
+        )
 
     from-invalid : HasOutcome t label v outcomes.Invalid → HasDisposition kept r m label v (codes "invalid")
     from-invalid h =
         let s = from-for properties r m n t names says label v h.0 h.1 in
-        let steps = steps-of properties r m n t names says label v s.0 s.1 in
-        (s.0, s.1,
-        (invalid-alike properties r m n t names says v made (map recorded s.0) (kinds_of (map put s.0)) (same-kinds properties r m n t names says s.0 steps)
-        (are-numbered properties r m n t names says s.0 steps) met).1 (ap (λ (xs : List Mapping). disposition_by t v (kinds_of xs)) (sym s.2) ∙ h.2))
+        let steps = steps-of properties r m n t names says label v s.0 s.1 in (
+          s.0,
+          s.1,
+          (invalid-alike properties r m n t names says v made (map recorded s.0) (kinds_of (map put s.0)) (same-kinds properties r m n t names says s.0 steps)
+              (are-numbered properties r m n t names says s.0 steps) met).1 (ap (λ (xs : List Mapping). disposition_by t v (kinds_of xs)) (sym s.2) ∙ h.2),
+        )
 
     to-allocatable : IsAllocatableIn Three t label v → lgr.IsAllocatable kept r m label v
     to-allocatable h =
@@ -94,7 +98,7 @@ module _ (properties : Properties) (r : Ruleset) (m : Meanings) (n : Numbering) 
         let steps = steps-of properties r m n t names says label v s.0 s.1 in
         let is : disposition_by t v (kinds_of (map put s.0)) ≡ h.1.0 = ap (λ (xs : List Mapping). disposition_by t v (kinds_of xs)) (sym s.2) ∙ h.1.1.2 in
         let word = (had-alike properties r m n t names says v made (map recorded s.0) (kinds_of (map put s.0)) (same-kinds properties r m n t names says s.0 steps)
-            (are-numbered properties r m n t names says s.0 steps) met).1 (ap is_allocatable is ∙ h.1.2) in
+        (are-numbered properties r m n t names says s.0 steps) met).1 (ap is_allocatable is ∙ h.1.2) in
         record { clear = (clear-alike properties r m n t names says label v).0 h.0; word = word.0; disposed = (s.0, s.1, word.1); had = word.2 }
 
     from-allocatable : lgr.IsAllocatable kept r m label v → IsAllocatableIn Three t label v
@@ -102,9 +106,10 @@ module _ (properties : Properties) (r : Ruleset) (m : Meanings) (n : Numbering) 
         let reading = h.disposed.0 in
         let steps = steps-of properties r m n t names says label v reading h.disposed.1 in
         let allocatable = (had-alike properties r m n t names says v made (map recorded reading) (kinds_of (map put reading)) (same-kinds properties r m n t names says reading steps)
-            (are-numbered properties r m n t names says reading steps) met).0 (h.word, h.disposed.2, h.had) in
-        ((clear-alike properties r m n t names says label v).1 h.clear,
-        (disposition_by t v (kinds_of (map put reading)), (map put reading, read_for label v reading h.disposed.1, refl), allocatable))
+        (are-numbered properties r m n t names says reading steps) met).0 (h.word, h.disposed.2, h.had) in (
+          (clear-alike properties r m n t names says label v).1 h.clear,
+          (disposition_by t v (kinds_of (map put reading)), (map put reading, read_for label v reading h.disposed.1, refl), allocatable),
+        )
 
   -- ---- a label that may be asked about
 
@@ -125,9 +130,9 @@ module _ (properties : Properties) (r : Ruleset) (m : Meanings) (n : Numbering) 
   sources-untyped : has_types t.entries ≡ false → AllByRecursion (λ e. e.type ≡ None) t.entries
   sources-untyped without =
       all-members (λ (e : Entry). e.type ≡ None) t.entries (λ e there. none-of e.type (λ some.
-          clash (has_types t.entries)
-          ((any-one (λ (e : Entry). list_any (λ (v : Variant). is_some v.type) (whole e)) t.entries).1
-          (e, there, (any-one (λ (v : Variant). is_some v.type) (whole e)).1 (source_of e, Contains-head (source_of e) e.variants, some))) without))
+      clash (has_types t.entries)
+      ((any-one (λ (e : Entry). list_any (λ (v : Variant). is_some v.type) (whole e)) t.entries).1
+      (e, there, (any-one (λ (v : Variant). is_some v.type) (whole e)).1 (source_of e, Contains-head (source_of e) e.variants, some))) without))
 
   clear-both : (label : List ℕ) → IsClear t label label → IsClearItself t label
   clear-both label (inl without) = typeless-clear t label says.well_formed.well_formed (sources-untyped without)

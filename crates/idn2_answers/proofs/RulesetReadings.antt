@@ -91,9 +91,12 @@ module _ (properties : Properties) (r : Ruleset) (m : Meanings) (n : Numbering) 
 
   pub variant-there : (p : Piece) (v : records.Variant) → Contains p.entry.variants v → IsTrue (may_be kept v.points) → is_reflexive p.source v ≡ false → Contains (entry p).variants (variant_of n v)
   variant-there p v there is other =
-      (Contains-map (variant_of n) (filter (λ (w : records.Variant). may_be kept w.points && not (is_reflexive p.source w)) p.entry.variants) (variant_of n v)).1
-      (v, (Contains-filter (λ (w : records.Variant). may_be kept w.points && not (is_reflexive p.source w)) p.entry.variants v).1
-      (there, ap (λ b. b && not (is_reflexive p.source v)) is ∙ true-of-not (is_reflexive p.source v) other), refl)
+      (Contains-map (variant_of n) (filter (λ (w : records.Variant). may_be kept w.points && not (is_reflexive p.source w)) p.entry.variants) (variant_of n v)).1 (
+        v,
+        (Contains-filter (λ (w : records.Variant). may_be kept w.points && not (is_reflexive p.source w)) p.entry.variants v).1
+            (there, ap (λ b. b && not (is_reflexive p.source v)) is ∙ true-of-not (is_reflexive p.source v) other),
+        refl,
+      )
 
   -- a variant of the ruleset by one of the table
   pub variant-back : (p : Piece) (w : Variant) → Contains (entry p).variants w
@@ -131,9 +134,11 @@ module _ (properties : Properties) (r : Ruleset) (m : Meanings) (n : Numbering) 
         by : (b : Bool) → is_reflexive p.source v ≡ b → MayBeMade t label place (mapped_if b p v)
         by true reflexive = tt
         by false other =
-            let there = variant-there p v is.0 is.1 other in
-            (there, (condition-holds r m n t names says.say_rules says.rules label made place (place + length p.source) (omega (arith, fits)) fits v.condition
-            (variant-rule p v its there)).1 is.2)
+            let there = variant-there p v is.0 is.1 other in (
+              there,
+              (condition-holds r m n t names says.say_rules says.rules label made place (place + length p.source) (omega (arith, fits)) fits v.condition
+                  (variant-rule p v its there)).1 is.2,
+            )
 
     -- a step by what the table does
     from-made : (x : Mapping) (place : ℕ) → Contains t.entries (entry_of x) → place + length (entry_of x).source ≤ length label → MayBeMade t label place x
@@ -145,38 +150,49 @@ module _ (properties : Properties) (r : Ruleset) (m : Meanings) (n : Numbering) 
 
         by : (o : Option records.Variant) → find (is_reflexive piece.0.source) piece.0.entry.variants ≡ o
             → (s : Step) × Its (piece_of s) × lgr_readings.MayBeMade kept r m label place s × (Stays e ≡ mapped s)
-        by None none =
-            (lgr_readings.Stays piece.0, piece.1,
-            (λ k d less same. absurd (not-reflexive piece.0.source (slice_index_or piece.0.entry.variants k d)
-            (find_none (is_reflexive piece.0.source) piece.0.entry.variants (slice_index_or piece.0.entry.variants k d) none (Contains-get_or piece.0.entry.variants k d less)) same)),
-            ap (λ (e : Entry). Stays e) piece.2)
+        by None none = (
+          lgr_readings.Stays piece.0,
+          piece.1,
+          (λ k d less same. absurd (not-reflexive piece.0.source (slice_index_or piece.0.entry.variants k d)
+              (find_none (is_reflexive piece.0.source) piece.0.entry.variants (slice_index_or piece.0.entry.variants k d) none (Contains-get_or piece.0.entry.variants k d less)) same)),
+          ap (λ (e : Entry). Stays e) piece.2,
+        )
         by (Some v) some =
             let found = find_some (is_reflexive piece.0.source) piece.0.entry.variants v some in
             let bare : v.condition ≡ None = bare piece.0 v piece.1 found.0 found.1 in
-            let allowed : IsTrue (may_be kept v.points) = subst (λ (s : List ℕ). IsTrue (may_be kept s)) (sym (is-reflexive piece.0.source v found.1)) (source-may kept r piece.0 piece.1) in
-            (lgr_readings.Maps piece.0 v, piece.1,
-            (found.0, allowed, subst (λ (c : Option Condition). lgr.ConditionHolds r m label c place (place + length piece.0.source)) (sym bare) tt),
-            ap (λ (e : Entry). Stays e) piece.2 ∙ ap (λ b. mapped_if b piece.0 v) (sym found.1))
+            let allowed : IsTrue (may_be kept v.points) = subst (λ (s : List ℕ). IsTrue (may_be kept s)) (sym (is-reflexive piece.0.source v found.1)) (source-may kept r piece.0 piece.1) in (
+              lgr_readings.Maps piece.0 v,
+              piece.1,
+              (found.0, allowed, subst (λ (c : Option Condition). lgr.ConditionHolds r m label c place (place + length piece.0.source)) (sym bare) tt),
+              ap (λ (e : Entry). Stays e) piece.2 ∙ ap (λ b. mapped_if b piece.0 v) (sym found.1),
+            )
     from-made (Maps e w) place of_table fits is =
         let p = its-piece properties r m n t names says e of_table in
         let v = variant-back p.0 w (subst (λ (x : Entry). Contains x.variants w) p.2 is.0) in
         let there = variant-there p.0 v.0 v.1 v.2 v.3 in
         let long : length e.source ≡ length p.0.source = ap (λ (x : Entry). length x.source) p.2 in
         let held = subst (λ (k : ℕ). patterns.ConditionHolds t.definitions.rules (seen_under t label) (variant_of n v.0).condition place (place + k)) long
-            (subst (λ (x : Variant). patterns.ConditionHolds t.definitions.rules (seen_under t label) x.condition place (place + length e.source)) v.4 is.1) in
-        (lgr_readings.Maps p.0 v.0, p.1,
-        (v.1, v.2, (condition-holds r m n t names says.say_rules says.rules label made place (place + length p.0.source) (omega (arith, fits)) (omega (arith, fits, long)) v.0.condition
-        (variant-rule p.0 v.0 p.1 there)).0 held),
-        ap (λ (x : Entry). Maps x w) p.2 ∙ ap (λ (x : Variant). Maps (entry p.0) x) v.4 ∙ ap (λ b. mapped_if b p.0 v.0) (sym v.3))
+        (subst (λ (x : Variant). patterns.ConditionHolds t.definitions.rules (seen_under t label) x.condition place (place + length e.source)) v.4 is.1) in (
+          lgr_readings.Maps p.0 v.0,
+          p.1,
+          (
+            v.1,
+            v.2,
+            (condition-holds r m n t names says.say_rules says.rules label made place (place + length p.0.source) (omega (arith, fits)) (omega (arith, fits, long)) v.0.condition
+                (variant-rule p.0 v.0 p.1 there)).0 held,
+          ),
+          ap (λ (x : Entry). Maps x w) p.2 ∙ ap (λ (x : Variant). Maps (entry p.0) x) v.4 ∙ ap (λ b. mapped_if b p.0 v.0) (sym v.3),
+        )
 
     to-all : (reading : List Step) (place : ℕ) → AllByRecursion Its (map piece_of reading) → place + length (flat_map (λ (p : Piece). p.source) (map piece_of reading)) ≤ length label
         → lgr_readings.MayAllBeMade kept r m label place reading → MayAllBeMade t label place (map mapped reading)
     to-all [] place its fits is = tt
     to-all (s ∷ reading) place its fits is =
         let long = length-append (piece_of s).source (flat_map (λ (p : Piece). p.source) (map piece_of reading)) in
-        let rest = to-all reading (place + length (piece_of s).source) its.1 (omega (arith, fits, long)) is.1 in
-        (to-made s place its.0 (omega (arith, fits, long)) is.0,
-        subst (λ (e : Entry). MayAllBeMade t label (place + length e.source) (map mapped reading)) (sym (entry-mapped s)) rest)
+        let rest = to-all reading (place + length (piece_of s).source) its.1 (omega (arith, fits, long)) is.1 in (
+          to-made s place its.0 (omega (arith, fits, long)) is.0,
+          subst (λ (e : Entry). MayAllBeMade t label (place + length e.source) (map mapped reading)) (sym (entry-mapped s)) rest,
+        )
 
     from-all : (xs : List Mapping) (place : ℕ) → AllByRecursion (Contains t.entries) (map entry_of xs) → place + length (flat_map (λ (e : Entry). e.source) (map entry_of xs)) ≤ length label
         → MayAllBeMade t label place xs → (reading : List Step) × AllByRecursion Its (map piece_of reading) × lgr_readings.MayAllBeMade kept r m label place reading × (xs ≡ map mapped reading)
@@ -185,9 +201,12 @@ module _ (properties : Properties) (r : Ruleset) (m : Meanings) (n : Numbering) 
         let long = length-append (entry_of x).source (flat_map (λ (e : Entry). e.source) (map entry_of xs)) in
         let s = from-made x place of_table.0 (omega (arith, fits, long)) is.0 in
         let rest = from-all xs (place + length (entry_of x).source) of_table.1 (omega (arith, fits, long)) is.1 in
-        let same : length (entry_of x).source ≡ length (piece_of s.0).source = ap (λ (y : Mapping). length (entry_of y).source) s.3 ∙ ap (λ (e : Entry). length e.source) (entry-mapped s.0) in
-        (s.0 ∷ rest.0, (s.1, rest.1), (s.2, subst (λ k. lgr_readings.MayAllBeMade kept r m label (place + k) rest.0) same rest.2),
-        ap (λ (y : Mapping). y ∷ xs) s.3 ∙ ap (λ (ys : List Mapping). mapped s.0 ∷ ys) rest.3)
+        let same : length (entry_of x).source ≡ length (piece_of s.0).source = ap (λ (y : Mapping). length (entry_of y).source) s.3 ∙ ap (λ (e : Entry). length e.source) (entry-mapped s.0) in (
+          s.0 ∷ rest.0,
+          (s.1, rest.1),
+          (s.2, subst (λ k. lgr_readings.MayAllBeMade kept r m label (place + k) rest.0) same rest.2),
+          ap (λ (y : Mapping). y ∷ xs) s.3 ∙ ap (λ (ys : List Mapping). mapped s.0 ∷ ys) rest.3,
+        )
 
   -- ---- readings
 
@@ -228,13 +247,16 @@ module _ (properties : Properties) (r : Ruleset) (m : Meanings) (n : Numbering) 
   from-reading label v xs is stays =
       let size : length (flat_map (λ (e : Entry). e.source) (map entry_of xs)) ≡ length label = ap length is.segmentation.joined in
       let back = from-all label (sources-of (map entry_of xs) label is.segmentation) xs 0 is.segmentation.of_table (omega (arith, size)) is.made in
-      let same : map entry_of xs ≡ map entry (map piece_of back.0) = ap (map entry_of) back.3 ∙ entries-mapped back.0 in
-      (back.0, record {
-        cut = cut-of properties r m n t names says (map piece_of back.0) label back.1 (subst (λ (es : List Entry). IsSegmentation t es label) same is.segmentation);
-        made = back.2;
-        joined = sym (sequences-mapped back.0) ∙ ap (flat_map sequence_of) (sym back.3) ∙ is.joined;
-        own = λ e. from-own back.0 (subst (AllByRecursion IsStaying) back.3 (stays e));
-      }, back.3)
+      let same : map entry_of xs ≡ map entry (map piece_of back.0) = ap (map entry_of) back.3 ∙ entries-mapped back.0 in (
+        back.0,
+        record {
+          cut = cut-of properties r m n t names says (map piece_of back.0) label back.1 (subst (λ (es : List Entry). IsSegmentation t es label) same is.segmentation);
+          made = back.2;
+          joined = sym (sequences-mapped back.0) ∙ ap (flat_map sequence_of) (sym back.3) ∙ is.joined;
+          own = λ e. from-own back.0 (subst (AllByRecursion IsStaying) back.3 (stays e));
+        },
+        back.3,
+      )
 
   -- as a listing reads labels
   pub to-for : (label v : List ℕ) (reading : List Step) → lgr_readings.IsReading kept r m label v reading → IsReadingFor t label v (map mapped reading)

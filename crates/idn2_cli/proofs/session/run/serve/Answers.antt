@@ -28,13 +28,13 @@ returns-in-Ok g c = elim c.in-Ok.ensures [
 pub returns-in-Err : goal.returns-in-Err
 returns-in-Err g c = elim c.in-Err.ensures [
   | inl stopped ↦ inl (
-      stopped.0,
-      stopped.1,
-      inr (record { why = c.in-Err.why; middle = _; stopped = stopped.2; closes = c.close.ensures.closes; answered = c.close.ensures.status }),
-    )
+    stopped.0,
+    stopped.1,
+    inr (record { why = c.in-Err.why; middle = _; stopped = stopped.2; closes = c.close.ensures.closes; answered = c.close.ensures.status }),
+  )
   | inr out ↦ inr (record {
-      by_table = out.by_table;
-      unread = out.unread;
-      told = told-memory c.in-Err.why _ _ _ _ (same-why _ _ out.why) out.unwritten c.close.ensures.closes c.close.ensures.status;
-    })
+    by_table = out.by_table;
+    unread = out.unread;
+    told = told-memory c.in-Err.why _ _ _ _ (same-why _ _ out.why) out.unwritten c.close.ensures.closes c.close.ensures.status;
+  })
 ]
