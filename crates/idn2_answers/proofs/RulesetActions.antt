@@ -44,7 +44,7 @@ module _ (properties : Properties) (r : Ruleset) (m : Meanings) (n : Numbering) 
   -- the types that an action asks for have numbers
   pub action-types : (a : Action) → Contains r.actions a → HaveNumbers n (trigger_types a.trigger)
   action-types a c name h =
-      says.numbers.types name (Contains-append_right (flat_map (λ (e : Entry). flat_map variant_type e.variants) r.entries) (flat_map (λ (x : Action). trigger_types x.trigger) r.actions)
+      says.defines.numbers.types name (Contains-append_right (flat_map (λ (e : Entry). flat_map variant_type e.variants) r.entries) (flat_map (λ (x : Action). trigger_types x.trigger) r.actions)
       name ((Contains-flat_map (λ (x : Action). trigger_types x.trigger) r.actions name).1 (a, c, h)))
 
   action-alike : (v : List ℕ) (recs : List Recorded) (kinds : List Kind) → IsOfSources t.entries v → SameKinds n recs kinds → AreNumbered n recs → (a : Action) (b : NamedAction) → HaveNumbers n (trigger_types a.trigger)
@@ -52,7 +52,7 @@ module _ (properties : Properties) (r : Ruleset) (m : Meanings) (n : Numbering) 
       → Agrees (IsTriggered r m v recs) (is_triggered (matches_rule t v) kinds) a (action_of t.definitions b)
   action-alike v recs kinds of same each a b all said known =
       let knows = and_parts (knows_rule (whole_rules t.definitions) b.condition) (knows_types (type_names t.definitions) b.trigger) known in
-      let asks = asked-alike n t.definitions says.well_formed.without_fault says.types a.trigger b.trigger recs kinds all said.trigger same each in
+      let asks = asked-alike n t.definitions says.well_formed.without_fault says.defines.types a.trigger b.trigger recs kinds all said.trigger same each in
       let holds = meets-alike properties r m n t names says a.condition b.condition v of said.condition knows.0 in
       let types : Bool = of_table.has_types (option_map (trigger_of t.definitions) b.trigger) kinds in
       let met : Bool = meets (matches_rule t v) (option_map (numbered t.definitions) b.condition) in

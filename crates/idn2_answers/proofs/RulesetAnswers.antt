@@ -2,6 +2,7 @@
 use Rattle.std.proofs.Common.{ℕ, List}
 use Rattle.idn_class.specs.declared.properties.Properties.{Properties}
 use Rattle.lgr_table.specs.Texts.{IsTableOfText}
+use Rattle.lgr_table.proofs.MeaningLemmas.{says-by}
 use Rattle.variant_table.specs.Entries.{TableValue}
 use Rattle.idn2_answers.specs.Rulesets.{AnswersAsText}
 use Rattle.idn2_answers.proofs.RulesetCuts.{made-alike}
@@ -10,20 +11,20 @@ use Rattle.idn2_answers.proofs.RulesetLabels.{admitted-alike, disposed-alike, li
 pub answers-as-text : (properties : Properties) (text : List ℕ) (t : TableValue) → IsTableOfText properties text t → AnswersAsText properties text t
 answers-as-text properties text t is =
     let r = is.ruleset_ in
-    let m = is.is.meanings in
     let n = is.is.numbering in
     let names = is.is.names in
-    let says = is.is.says in
     record {
       ruleset_ = r;
       said = is.said;
       names = names;
-      meanings = m;
+      meanings = is.is.meanings;
       are_meant = is.is.are_meant;
-      answers = record {
-        made = made-alike properties r m n t names says;
-        admitted = admitted-alike properties r m n t names says;
-        listed = listed-alike properties r m n t names says;
-        disposed = disposed-alike properties r m n t names says;
-      };
+      answers = λ m are.
+          (let says = says-by properties r names is.is.meanings m is.is.are_meant are n t is.is.says in
+          record {
+            made = made-alike properties r m n t names says;
+            admitted = admitted-alike properties r m n t names says;
+            listed = listed-alike properties r m n t names says;
+            disposed = disposed-alike properties r m n t names says;
+          });
     }

@@ -159,7 +159,7 @@ module _ (properties : Properties) (r : Ruleset) (m : Meanings) (n : Numbering) 
           ap (λ b. b && (stays || (keeps kept lacks_type r.entries && not (keeps kept has_type r.entries)))) typed
           ∙ ap (λ b. stays || (b && not (keeps kept has_type r.entries))) lacks ∙ ap (λ b. stays || not b) has-typed ∙ or-true stays in
           clash (tables.has_types t.entries)
-          (table-typed p v its there allowed (subst (λ (x : Option (List ℕ)). IsSome (type_number n x)) (sym e) (unnamed-there n.types (says.numbers.untyped.1 needs)))) without
+          (table-typed p v its there allowed (subst (λ (x : Option (List ℕ)). IsSome (type_number n x)) (sym e) (unnamed-there n.types (says.defines.numbers.untyped.1 needs)))) without
         where
           or-true : (b : Bool) → (b || true) ≡ true
           or-true true = refl

@@ -44,11 +44,11 @@ module _ (properties : Properties) (r : Ruleset) (m : Meanings) (n : Numbering) 
   -- ---- conditions
 
   abbrev pub HasRuleOf : Option Condition → Type 0
-  HasRuleOf = HasItsRule r m n t names says.say_rules says.rules
+  HasRuleOf = HasItsRule r m n t names says.say_rules says.defines.rules
 
   pub rule-there : (c : Option Condition) → HasIts t.definitions (option_map (numbered_condition n) c) → HasRuleOf c
   rule-there None has = tt
-  rule-there (Some c) has = omega (arith, has, says.well_formed.without_fault.named_rules, says.rules)
+  rule-there (Some c) has = omega (arith, has, says.well_formed.without_fault.named_rules, says.defines.rules)
 
   pub its-names : (p : Piece) → IsPiece p → All (HasItsOwn t.definitions) (whole (at p))
   its-names p there = All-contains (IsNamed t.definitions) t.entries (at p) says.well_formed.named (its-entry p there)
@@ -113,7 +113,7 @@ module _ (properties : Properties) (r : Ruleset) (m : Meanings) (n : Numbering) 
     all-hold [] place all fits = (λ h. tt, λ h. tt)
     all-hold (p ∷ cut) place all fits =
         let long = length-append p.source (flat_map (λ (p : Piece). p.source) cut) in
-        let here = condition-holds r m n t names says.say_rules says.rules label made place (place + length p.source)
+        let here = condition-holds r m n t names says.say_rules says.defines.rules label made place (place + length p.source)
         (omega (arith, fits)) (omega (arith, fits, long)) p.entry.condition (entry-rule p all.0) in
         let rest = all-hold cut (place + length p.source) all.1 (omega (arith, fits, long)) in
         (λ h. (here.0 h.0, rest.0 h.1), λ h. (here.1 h.0, rest.1 h.1))
@@ -130,7 +130,7 @@ module _ (properties : Properties) (r : Ruleset) (m : Meanings) (n : Numbering) 
           record {
             of_repertoire = there;
             there = s.begins;
-            holds = (condition-holds r m n t names says.say_rules says.rules label made place (place + length p.source)
+            holds = (condition-holds r m n t names says.say_rules says.defines.rules label made place (place + length p.source)
                 (omega (arith, fits)) fits p.entry.condition (entry-rule p there)).0 s.holds;
           },
       λ s.
@@ -138,7 +138,7 @@ module _ (properties : Properties) (r : Ruleset) (m : Meanings) (n : Numbering) 
           record {
             of_table = its-entry p there;
             begins = s.there;
-            holds = (condition-holds r m n t names says.say_rules says.rules label made place (place + length p.source)
+            holds = (condition-holds r m n t names says.say_rules says.defines.rules label made place (place + length p.source)
                 (omega (arith, fits)) fits p.entry.condition (entry-rule p there)).1 s.holds;
           },
     )

@@ -200,7 +200,7 @@ module _ (properties : Properties) (r : Ruleset) (m : Meanings) (n : Numbering) 
   -- a rule that a demand names is a whole-label rule
   pub demanded-whole : (c : Condition) → Contains (demanded r.actions) c → IsWhole n t c.rule
   demanded-whole c k =
-      let said = said-demand n t.definitions (demanded r.actions) t.definitions.demands c says.demands anchors k in
+      let said = said-demand n t.definitions (demanded r.actions) t.definitions.demands c says.defines.demands anchors k in
       demand-whole properties r m n t names says c said.0.pattern said.1.pattern said.2
 
   wanted-alike : (kind : ConditionKind) (H O : Type 0) → H ↔ O → O ⊎ (O → ⊥) → IsWanted (demand_kind kind) O ↔ (¬ IsAsked kind H)
@@ -250,7 +250,7 @@ module _ (properties : Properties) (r : Ruleset) (m : Meanings) (n : Numbering) 
   -- a label meets the demands of the table exactly if it breaks none of the ruleset
   pub demands-alike : (v : List ℕ) → IsOfSources t.entries v → MeetsDemands t v ↔ (¬ BreaksDemand r m v)
   demands-alike v of =
-      let all = demands-met v of (demanded r.actions) t.definitions.demands says.demands anchors in (
+      let all = demands-met v of (demanded r.actions) t.definitions.demands says.defines.demands anchors in (
         λ h broken. all.0 h broken.0 broken.1 broken.2,
         λ none. all.1 (λ c k h. none (c, k, h)),
       )
@@ -266,7 +266,7 @@ module _ (properties : Properties) (r : Ruleset) (m : Meanings) (n : Numbering) 
 
   acting-whole : (a : Action) → Contains (acting r.actions) a → (c : Condition) → a.condition ≡ Some c → IsWhole n t c.rule
   acting-whole a k c is =
-      let said = said-action n t.definitions (acting r.actions) t.definitions.actions a says.actions says.well_formed.without_fault.known k in
+      let said = said-action n t.definitions (acting r.actions) t.definitions.actions a says.defines.actions says.well_formed.without_fault.known k in
       let knows = and_parts (knows_rule (whole_rules t.definitions) said.0.condition) (knows_types (type_names t.definitions) said.0.trigger) said.2 in
       action-whole properties r m n t names says c said.0.condition (said.1.condition ∙ ap (option_map (called_condition n t.definitions)) is) knows.0
 
@@ -367,7 +367,7 @@ module _ (properties : Properties) (r : Ruleset) (m : Meanings) (n : Numbering) 
           (first-kept P (IsOfFirst P (following r.actions) last) others (leading r.actions) word (λ a k is p. met (alone-breaks recs a k is p)) cut) in
           first-told P (is_triggered (matches_rule t v) kinds) last Told exact (unwrap_or (of_table.default_disposition (matches_rule t v) kinds) Valid) default
           (acting r.actions) (map (action_of t.definitions) t.definitions.actions)
-          (actions-alike properties r m n t names says v recs kinds of same each (acting r.actions) t.definitions.actions acting-of says.actions says.well_formed.without_fault.known) word kept
+          (actions-alike properties r m n t names says v recs kinds of same each (acting r.actions) t.definitions.actions acting-of says.defines.actions says.well_formed.without_fault.known) word kept
 
       -- the disposition in the table, but that 'activated' may stand there for 'valid'
       pub disposition-told : (word : List ℕ) → IsDispositionOf r m v recs word → IsToldAs word (disposition_by t v kinds)

@@ -24,7 +24,7 @@ use Rattle.variant_dispositions.specs.Kinds.{Kind as kind}
 use Rattle.variant_list.specs.Readings.{Mapping, kind_of, kinds_of}
 use Rattle.variant_table.proofs.MemberLemmas.{Contains-cases, Contains-head, Contains-none, Contains-one, find_none, find_some}
 use Rattle.variant_table.proofs.MemberLists.{Contains-filter, Contains-flat_map, Contains-map, any-one}
-use Rattle.variant_table.specs.Entries.{Entry, TableValue, Variant}
+use Rattle.variant_table.specs.Entries.{Entry, TableValue}
 use Rattle.idn2_answers.proofs.RulesetCuts.{IsPiece, at, may}
 use Rattle.idn2_answers.proofs.RulesetPieces.{entry-piece}
 use Rattle.idn2_answers.proofs.RulesetReadings.{bare, mapped, mapped_if, one-type}
@@ -116,7 +116,7 @@ module _ (properties : Properties) (r : Ruleset) (m : Meanings) (n : Numbering) 
   name-numbered p v name its there is =
       let here : Contains (variant_type v) name = subst (λ (o : Option (List ℕ)). Contains (if_some o) name) (sym is) (Contains-head name []) in
       let in_entry = (Contains-flat_map variant_type p.entry.variants name).1 (v, there, here) in
-      says.numbers.types name
+      says.defines.numbers.types name
       (Contains-append_left (flat_map (λ (e : records.Entry). flat_map variant_type e.variants) r.entries) (flat_map (λ (a : records.Action). trigger_types a.trigger) r.actions) name
       ((Contains-flat_map (λ (e : records.Entry). flat_map variant_type e.variants) r.entries name).1 (p.entry, of-entries p its, in_entry)))
 
@@ -134,7 +134,7 @@ module _ (properties : Properties) (r : Ruleset) (m : Meanings) (n : Numbering) 
 
   pub unnumbered : has_types r.entries ≡ false → type_number n None ≡ None
   unnumbered none = unnamed-absent n.types (λ there.
-      let needs = says.numbers.untyped.0 there in
+      let needs = says.defines.numbers.untyped.0 there in
       clash (needs_type kept r.entries) needs (ap (λ b. b && (keeps kept stays_untyped r.entries || (keeps kept lacks_type r.entries && not (keeps kept has_type r.entries)))) none))
 
   -- of a kept source some variant that may be is so
@@ -163,7 +163,7 @@ module _ (properties : Properties) (r : Ruleset) (m : Meanings) (n : Numbering) 
           let stays : keeps kept stays_untyped r.entries ≡ true = kept-so stays_untyped p v its there allowed (ap (λ b. b && is_reflexive p.source v) lacks ∙ reflexive) in
           let rest : Bool = keeps kept lacks_type r.entries && not (keeps kept has_type r.entries) in
           let needs : needs_type kept r.entries ≡ true = ap (λ b. b && (keeps kept stays_untyped r.entries || rest)) typed ∙ ap (λ b. b || rest) stays in
-          subst (λ (x : Option (List ℕ)). IsSome (type_number n x)) (sym is) (unnamed-there n.types (says.numbers.untyped.1 needs))
+          subst (λ (x : Option (List ℕ)). IsSome (type_number n x)) (sym is) (unnamed-there n.types (says.defines.numbers.untyped.1 needs))
 
   -- ---- what a step records
 

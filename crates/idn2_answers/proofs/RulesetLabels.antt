@@ -31,7 +31,7 @@ use Rattle.variant_table.proofs.MemberLists.{all-members, any-one}
 use Rattle.variant_table.specs.Entries.{Entry, TableValue, Variant, has_types, source_of, whole}
 use Rattle.variant_table.specs.Segmentations.{IsMadeOfSources}
 use Rattle.idn2_options.specs.Settings.{Settings}
-use Rattle.idn2_answers.specs.Dispositions.{HasOutcome, IsAllocatable, IsAllocatableIn, IsAllocation, IsClear, IsDisposition, IsFieldOf, IsReadingFor}
+use Rattle.idn2_answers.specs.Dispositions.{HasOutcome, IsAllocatableIn, IsAllocation, IsClear, IsDisposition, IsFieldOf, IsReadingFor}
 use Rattle.idn2_answers.specs.Listings.{IsListed}
 use Rattle.idn2_answers.specs.Rulesets.{IsDispositionBy, IsListedAs}
 use Rattle.idn2_answers.proofs.ReadingTests.{clear-itself, kinds-of, outcome-itself, reading-itself, some-reading}
@@ -165,7 +165,7 @@ module _ (properties : Properties) (r : Ruleset) (m : Meanings) (n : Numbering) 
   )
     where
       eligible-there : (AllowsAnyCut t × IsMadeOfSources t label) ⊎ IsEligible t label → IsEligible t label
-      eligible-there (inl any) = absurd (any.0.earlier says.version)
+      eligible-there (inl any) = absurd (any.0.earlier says.defines.version)
       eligible-there (inr eligible) = eligible
 
   -- ---- variants
@@ -186,7 +186,7 @@ module _ (properties : Properties) (r : Ruleset) (m : Meanings) (n : Numbering) 
             given = (s.0, s.1);
             met = met;
             not_invalid = λ clear h. l.kept (record {
-              of_ruleset = says.version;
+              of_ruleset = says.defines.version;
               clear = (clear-alike properties r m n t names says label v).1 clear;
               invalid = to-invalid label v made met h;
             });
@@ -206,7 +206,7 @@ module _ (properties : Properties) (r : Ruleset) (m : Meanings) (n : Numbering) 
   )
     where
       eligible-there : AllowsAnyCut t ⊎ IsEligible t v → IsEligible t v
-      eligible-there (inl any) = absurd (any.earlier says.version)
+      eligible-there (inl any) = absurd (any.earlier says.defines.version)
       eligible-there (inr eligible) = eligible
 
   -- ---- dispositions
@@ -214,8 +214,8 @@ module _ (properties : Properties) (r : Ruleset) (m : Meanings) (n : Numbering) 
   pub disposed-alike : (label v : List ℕ) (field : Option Disposition) → IsVariant kept r m label v → IsDisposition t label v field ↔ IsDispositionBy kept r m label v field
   disposed-alike label v field variant = (
     λ d. field-alike (IsClear t label v) (lgr_readings.IsClear kept r m label v) (IsAllocatableIn Three t label v) (lgr.IsAllocatable kept r m label v) field clear alike
-        (subst By says.version d),
-    λ d. subst By (sym says.version)
+        (subst By says.defines.version d),
+    λ d. subst By (sym says.defines.version)
         (field-alike (lgr_readings.IsClear kept r m label v) (IsClear t label v) (lgr.IsAllocatable kept r m label v) (IsAllocatableIn Three t label v) field (back clear) (back alike) d),
   )
     where

@@ -136,7 +136,7 @@ module _ (properties : Properties) (r : Ruleset) (m : Meanings) (n : Numbering) 
         by false other =
             let there = variant-there p v is.0 is.1 other in (
               there,
-              (condition-holds r m n t names says.say_rules says.rules label made place (place + length p.source) (omega (arith, fits)) fits v.condition
+              (condition-holds r m n t names says.say_rules says.defines.rules label made place (place + length p.source) (omega (arith, fits)) fits v.condition
                   (variant-rule p v its there)).1 is.2,
             )
 
@@ -178,7 +178,7 @@ module _ (properties : Properties) (r : Ruleset) (m : Meanings) (n : Numbering) 
           (
             v.1,
             v.2,
-            (condition-holds r m n t names says.say_rules says.rules label made place (place + length p.0.source) (omega (arith, fits)) (omega (arith, fits, long)) v.0.condition
+            (condition-holds r m n t names says.say_rules says.defines.rules label made place (place + length p.0.source) (omega (arith, fits)) (omega (arith, fits, long)) v.0.condition
                 (variant-rule p.0 v.0 p.1 there)).0 held,
           ),
           ap (λ (x : Entry). Maps x w) p.2 ∙ ap (λ (x : Variant). Maps (entry p.0) x) v.4 ∙ ap (λ b. mapped_if b p.0 v.0) (sym v.3),

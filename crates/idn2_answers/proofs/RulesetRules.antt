@@ -112,7 +112,7 @@ module _ (properties : Properties) (r : Ruleset) (m : Meanings) (n : Numbering) 
   rule-names = names-after t.definitions.set_names t.definitions.rule_names (names-after (type_names t.definitions) (t.definitions.set_names ++ t.definitions.rule_names) are.names)
 
   names-count : length t.definitions.rule_names ≡ length n.rules
-  names-count = are.named_rules ∙ says.rules
+  names-count = are.named_rules ∙ says.defines.rules
 
   -- a rule holds where its pattern does
   pub rule-alike : (name v : List ℕ) (i j : ℕ) → IsOfSources t.entries v → number_of n.rules name < length n.rules → i ≤ length v → j ≤ length v
@@ -141,7 +141,7 @@ module _ (properties : Properties) (r : Ruleset) (m : Meanings) (n : Numbering) 
   whole-alike name v of is =
       let occurs = whole-occurs name v of is in
       let k : ℕ = number_of n.rules name in
-      let less : k < length rules = (let there = is.there in let count = says.rules in omega (arith, there, count)) in
+      let less : k < length rules = (let there = is.there in let count = says.defines.rules in omega (arith, there, count)) in
       let same : rule_at rules k ≡ pattern_of n t name = get_or_default rules k (Group Anchor) Anchor less in
       let tested = occurs-agrees (seen_under t v) (pattern_of n t name) in (
         λ h. ap (occurs_in (seen_under t v)) same ∙ tested.1 (occurs.0 h),
@@ -226,7 +226,7 @@ module _ (properties : Properties) (r : Ruleset) (m : Meanings) (n : Numbering) 
       by : (number_of n.rules c.rule < length n.rules) ⊎ (length n.rules ≤ number_of n.rules c.rule) → IsWhole n t c.rule
       by (inl less) = record { there = less; whole = subst (λ (p : Pattern). is_context_rule p ≡ false) is (whole_rule pattern none) }
       by (inr past) =
-          let all : length rules ≤ number_of n.rules c.rule = (let count = says.rules in omega (arith, past, count)) in
+          let all : length rules ≤ number_of n.rules c.rule = (let count = says.defines.rules in omega (arith, past, count)) in
           let anchor : pattern ≡ Anchor = is ∙ get_or_past rules (number_of n.rules c.rule) Anchor all in
           let clash : true ≡ false = sym (ap (has sign.Anchor) anchor) ∙ none in
           absurd (cc)

@@ -40,12 +40,13 @@ pub record AnswersAs (may : ℕ → Bool) (r : Ruleset) (m : Meanings) (table : 
   pub disposed : (label v : List ℕ) (field : Option Disposition) → IsVariant may r m label v
       → IsDisposition table label v field ↔ IsDispositionBy may r m label v field
 
--- the text says a ruleset, all names of which are defined, and the table answers as that does, by what the names stand
--- for
+-- the text says a ruleset, all names of which are defined. There is something that they stand for, and by whatever they
+-- stand for, the table answers as the ruleset
 pub record AnswersAsText (properties : Properties) (text : List ℕ) (table : TableValue) : Type 0 where
   pub ruleset_ : Ruleset
   pub said : SaysRuleset text ruleset_
   pub names : HasItsNames ruleset_
   pub meanings : Meanings
   pub are_meant : AreMeaningsOf (may_stand properties) ruleset_ meanings
-  pub answers : AnswersAs (may_stand properties) ruleset_ meanings table
+  pub answers : (m : Meanings) → AreMeaningsOf (may_stand properties) ruleset_ m
+      → AnswersAs (may_stand properties) ruleset_ m table

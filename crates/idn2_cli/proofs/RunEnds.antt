@@ -18,7 +18,7 @@ use Rattle.idn2_refusals.specs.Messages.{fault_line}
 use Rattle.idn2_output.specs.OutputLines.{Output, OutputLine}
 use Rattle.idn2_output.specs.Writing.{Held, refusal_of, Emits}
 use Rattle.idn2_refusals.specs.Reports.{TakesText, closing_message}
-use Rattle.idn2_cli.specs.Ends.{Job, Does, RunsBy, Ends, EndsEarly, EndsWell, Closes, Stands, StopsAtLine, StopsUnread, at_lines_alone, lines_job, mode_job}
+use Rattle.idn2_cli.specs.Ends.{Job, Does, RunsBy, EndsEarly, EndsWell, Closes, Stands, StopsAtLine, StopsUnread, at_lines_alone, lines_job, mode_job}
 use Rattle.idn2_options.specs.declared.command_line.form.Form.{Form}
 use Rattle.idn2_options.specs.declared.command_line.mode.Mode.{Mode}
 use Rattle.idn2_options.specs.declared.command_line.mode.Mode.TheVariants.{Variants, CheckTable, PrintTable}

@@ -1,5 +1,5 @@
 -- Objects that are read back as they are meant.
-use Rattle.std.specs.Prelude.{◌≡◌, ◌≢◌, ℕ, ◌<◌, ◌≤◌, ◌^◌, Bool, true, All, IsUtf8, List, length, Option, Some, None, Ok}
+use Rattle.std.specs.Prelude.{◌≡◌, ℕ, ◌<◌, ◌≤◌, ◌^◌, Bool, true, All, IsUtf8, List, length, Option, Some, None, Ok}
 use Rattle.std.specs.Prelude.{Err}
 use Rattle.idn_class.specs.declared.properties.Properties.{Properties}
 use Rattle.json.specs.Json.{document}

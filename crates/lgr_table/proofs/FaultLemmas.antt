@@ -71,9 +71,9 @@ has-number : (names : List (List ℕ)) (name : List ℕ) → Contains names name
 has-number names name h = number-found names h.0 name h.1 (get_or_default names h.0 [] name h.1 ∙ h.2)
 
 -- a condition asks for a rule that has no number
-pub asks-for-none : (r : Ruleset) (rules : List (List ℕ)) (c : Condition) → Contains (conditions r) c → HasRulesOf r rules
-    → length rules ≤ number_of rules c.rule.name → NamesNothing r c.rule.line
-asks-for-none r rules c among has none = inr (inr (inr (record {
+pub asks-for-none : (may : ℕ → Bool) (r : Ruleset) (rules : List (List ℕ)) (c : Condition) → Contains (conditions r) c → HasRulesOf r rules
+    → length rules ≤ number_of rules c.rule.name → NamesNothing may r c.rule.line
+asks-for-none may r rules c among has none = inr (inr (inr (record {
   condition = c;
   among = among;
   here = refl;
@@ -98,36 +98,36 @@ class-limit known (lgr.OfClass name) is = limit-by _ wrong.Undefined is (λ e. c
 class-limit known (lgr.Joined operation k m) is = either-limit _ _ is (class-limit known k) (class-limit known m)
 class-limit known (lgr.Complement k) is = class-limit known k is
 
-pub told-class : (r : Ruleset) (d : Definition) (known : Known) (class : Class) (e : RuleError) → ComesNext r d known
-    → meaning d.meaning ≡ IsClass class → IsTold (class_fault known class) e → TellsOfDefinition r d.line e
-told-class r d known class (error.Fault wrong.Undefined) next is told =
+pub told-class : (may : ℕ → Bool) (r : Ruleset) (d : Definition) (known : Known) (class : Class) (e : RuleError) → ComesNext may r d known
+    → meaning d.meaning ≡ IsClass class → IsTold (class_fault known class) e → TellsOfDefinition may r d.line e
+told-class may r d known class (error.Fault wrong.Undefined) next is told =
     record { definition = d; here = refl; known = known; next = next; wrong = rw is told }
-told-class r d known class (error.Fault wrong.Misplaced) next is told =
+told-class may r d known class (error.Fault wrong.Misplaced) next is told =
     record { definition = d; here = refl; known = known; next = next; wrong = rw is told }
-told-class r d known class (error.Fault wrong.NotSupported) next is told =
+told-class may r d known class (error.Fault wrong.NotSupported) next is told =
     record { definition = d; here = refl; known = known; next = next; wrong = rw is told }
-told-class r d known class (error.Fault wrong.Limit) next is told = absurd (class-limit known class told)
-told-class r d known class error.Memory next is told = tt
+told-class may r d known class (error.Fault wrong.Limit) next is told = absurd (class-limit known class told)
+told-class may r d known class error.Memory next is told = tt
 
 -- no limit is gone past
 no-limit : (b : Bool) (o : Option RuleFault) (w : RuleFault) → (wrong.Limit ≡ w → ⊥) → cond b (Some wrong.Limit) o ≡ Some w → o ≡ Some w
 no-limit true o w other is = absurd (other (cc))
 no-limit false o w other is = is
 
-pub told-rule : (r : Ruleset) (d : Definition) (known : Known) (left : ℕ) (rule : Part) (e : RuleError) → Contains r.definitions.items d
-    → ComesNext r d known → meaning d.meaning ≡ IsRule rule → IsTold (fault_within left known rule) e → TellsOfDefinition r d.line e
-told-rule r d known left rule (error.Fault wrong.Undefined) h next is told =
+pub told-rule : (may : ℕ → Bool) (r : Ruleset) (d : Definition) (known : Known) (left : ℕ) (rule : Part) (e : RuleError) → Contains r.definitions.items d
+    → ComesNext may r d known → meaning d.meaning ≡ IsRule rule → IsTold (fault_within left known rule) e → TellsOfDefinition may r d.line e
+told-rule may r d known left rule (error.Fault wrong.Undefined) h next is told =
     let whole : part_fault known rule ≡ Some wrong.Undefined = no-limit _ _ wrong.Undefined (λ e. cc) told in
     record { definition = d; here = refl; known = known; next = next; wrong = rw is whole }
-told-rule r d known left rule (error.Fault wrong.Misplaced) h next is told =
+told-rule may r d known left rule (error.Fault wrong.Misplaced) h next is told =
     let whole : part_fault known rule ≡ Some wrong.Misplaced = no-limit _ _ wrong.Misplaced (λ e. cc) told in
     record { definition = d; here = refl; known = known; next = next; wrong = rw is whole }
-told-rule r d known left rule (error.Fault wrong.NotSupported) h next is told =
+told-rule may r d known left rule (error.Fault wrong.NotSupported) h next is told =
     let whole : part_fault known rule ≡ Some wrong.NotSupported = no-limit _ _ wrong.NotSupported (λ e. cc) told in
     record { definition = d; here = refl; known = known; next = next; wrong = rw is whole }
-told-rule r d known left rule (error.Fault wrong.Limit) h next is told =
+told-rule may r d known left rule (error.Fault wrong.Limit) h next is told =
     record { definition = d; among = h; here = refl; part = rule; is = is }
-told-rule r d known left rule error.Memory h next is told = tt
+told-rule may r d known left rule error.Memory h next is told = tt
 
 -- a table has no room for a rule
 pub no-room : (may : ℕ → Bool) (r : Ruleset) (d : Definition) (rule : Part) (e : TableError) → Contains r.definitions.items d
@@ -167,10 +167,10 @@ anchored-by known names rules name e f h =
     ∙ and_from (nat_lt (number_of names name) (length rules)) (is_context_rule (slice_index_or rules (number_of names name) pattern.Anchor))
     (lt-ltb (number_of names name) (length rules) h.0) h.1
 
-pub asks-for-anchor : (r : Ruleset) (a : Action) (c : Condition) (names : List (List ℕ)) (rules : List Pattern) (line : ℕ) → Contains r.actions.items a
-    → Contains (given a.condition) c → KnowsRules r names rules → IsAnchored names rules c.rule.name → (line ≡ a.line ⊎ line ≡ c.rule.line)
-    → AsksForAnchor r line
-asks-for-anchor r a c names rules line h own knows is here = record {
+pub asks-for-anchor : (may : ℕ → Bool) (r : Ruleset) (a : Action) (c : Condition) (names : List (List ℕ)) (rules : List Pattern) (line : ℕ) → Contains r.actions.items a
+    → Contains (given a.condition) c → KnowsRules may r names rules → IsAnchored names rules c.rule.name → (line ≡ a.line ⊎ line ≡ c.rule.line)
+    → AsksForAnchor may r line
+asks-for-anchor may r a c names rules line h own knows is here = record {
   action = a;
   among = h;
   condition = c;
@@ -181,7 +181,7 @@ asks-for-anchor r a c names rules line h own knows is here = record {
   anchored = anchored-by knows.0 names rules c.rule.name knows.2 knows.3 is;
 }
 
-pub told-anchored : (may : ℕ → Bool) (r : Ruleset) (anchored : Bool) (on : ℕ) (e : TableError) → (anchored ≡ true → AsksForAnchor r on)
+pub told-anchored : (may : ℕ → Bool) (r : Ruleset) (anchored : Bool) (on : ℕ) (e : TableError) → (anchored ≡ true → AsksForAnchor may r on)
     → HasActionOn r on → TellsAnchored anchored on e → IsFaultOfTable may r e
 told-anchored may r anchored on (Fault Syntax line) asks here told = absurd told
 told-anchored may r anchored on (Fault SameSource line) asks here told = absurd told
@@ -190,7 +190,7 @@ told-anchored may r anchored on (Fault BadClass line) asks here told = absurd to
 told-anchored may r anchored on (Fault Limit line) asks here told = inr (inr (inr (inr (subst (HasActionOn r) (sym told) here))))
 told-anchored may r anchored on (Fault NoSuchName line) asks here told = absurd told
 told-anchored may r anchored on (Fault SameName line) asks here told = absurd told
-told-anchored may r anchored on (Fault NotSupported line) asks here told = inr (inl (subst (AsksForAnchor r) (sym told.1) (asks told.0)))
+told-anchored may r anchored on (Fault NotSupported line) asks here told = inr (inl (subst (AsksForAnchor may r) (sym told.1) (asks told.0)))
 told-anchored may r anchored on Memory asks here told = tt
 
 -- what is told of a condition or of types is that they aren't defined

@@ -171,8 +171,8 @@ matching-stays old new grows p free s at i j =
     let R : Option Place → List ℕ → ℕ → ℕ → Type 0 = λ place name k m. MatchesAround s place (rule_named old name) k m in
     let S : Option Place → List ℕ → ℕ → ℕ → Type 0 = λ place name k m. MatchesAround s place (rule_named new name) k m in
     parts-agree (has old) (has new) R S s.label at p
-    (agree-known (has old) (has new) (R at) (S at) p
-    (All-weaker (λ class. class_fault old class ≡ None) (λ class. (c : ℕ) → has old class c ≡ has new class c) (class-stays old new grows) (classes_of p) free.classes)
+    (agree-known s.label (has old) (has new) (R at) (S at) p
+    (All-weaker (λ class. class_fault old class ≡ None) (λ class. All (λ c. has old class c ≡ has new class c) s.label) (λ class none k d l. class-stays old new grows class none (get_or s.label k d)) (classes_of p) free.classes)
     (All-weaker (λ name. name_fault old name ≡ None) (λ name. (k m : ℕ) → R at name k m ↔ S at name k m) (λ name none k m.
     let same = (grows.rules name (rule-found old name none)).1 in (
       λ h. subst (λ q. MatchesAround s at q k m) (sym same) h,

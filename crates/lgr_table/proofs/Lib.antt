@@ -13,6 +13,7 @@ pub mod TypeLemmas
 pub mod TableNameLemmas
 pub mod KeptLemmas
 pub mod KnownLemmas
+pub mod MeaningLemmas
 pub mod AgreeLemmas
 pub mod DecisionLemmas
 pub mod GrowthLemmas

@@ -15,7 +15,7 @@ use Rattle.lgr_text.specs.ClassMembers.{class_fault, has, set_fault}
 use Rattle.lgr_text.specs.DefinitionOrder.{IsOrder}
 use Rattle.lgr_text.specs.Known.{Known}
 use Rattle.lgr_text.specs.PartMatches as parts
-use Rattle.lgr_text.specs.PartMatches.{IsOf, MatchesAround, PartMatches, Place, name_fault, rule_named}
+use Rattle.lgr_text.specs.PartMatches.{IsOf, MatchesAround, Place, name_fault, rule_named}
 use Rattle.lgr_text.specs.Records.{Definition, Entry, IsClass, IsRule, Part, file}
 use Rattle.lgr_text.specs.declared.records.Ruleset as held
 use Rattle.variant_table.specs.Entries as table
@@ -65,7 +65,7 @@ source-kept may n entries e c h k =
     let made = of-one (entry_with may n found.0) (kept_sources may found.0) e found.2 in
     (found.0, made.0, found.1, made.1, subst (λ (f : table.Entry). Contains f.source c) (sym made.2) k)
 
-sources-kept : (may : ℕ → Bool) (n : Numbering) (entries : List Entry) (label : List ℕ) → IsOfSources (all_entries may n entries) label
+pub sources-kept : (may : ℕ → Bool) (n : Numbering) (entries : List Entry) (label : List ℕ) → IsOfSources (all_entries may n entries) label
     → All (IsKept may entries) label
 sources-kept may n entries label of =
     All-weaker (λ c. (e : table.Entry) × Contains (all_entries may n entries) e × Contains e.source c) (IsKept may entries) (λ c h. source-kept may n entries h.0 c h.1 h.2) label of
@@ -89,7 +89,7 @@ decided known sets label at rule i j =
     let R : Option Place → List ℕ → ℕ → ℕ → Type 0 = λ place name k l. MatchesAround s place (rule_named known name) k l in
     let S : Option Place → List ℕ → ℕ → ℕ → Type 0 = λ place name k l. IsTrue (matches_around s place (rule_named known name) k l) in
     parts-agree (has known) (has known) R S label at rule
-    (agree-named (has known) (R at) (S at) (λ name k l. (let e = around-agrees s at (rule_named known name) k l in (e.1, e.0))) rule) i j
+    (agree-named label (has known) (R at) (S at) (λ name k l. (let e = around-agrees s at (rule_named known name) k l in (e.1, e.0))) rule) i j
 
 -- the file, its definitions in order, and what is known of them; the table before and after
 module _ (properties : Properties) (raw : held.Ruleset) (order : List ℕ) (points : List Span) (known : Known) (t u : TableValue)

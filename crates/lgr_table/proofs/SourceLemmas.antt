@@ -37,8 +37,7 @@ use Rattle.lgr_table.specs.declared.fault.TableError.{TableError}
 use Rattle.lgr_table.specs.declared.fault.TableError.TheVariants.{Fault, Memory}
 use Rattle.lgr_table.specs.declared.fault.TableFault.TheVariants.{BadClass, Limit, NoSuchName, NotSupported, SameName, SameSource, SameVariant, Syntax}
 use Rattle.lgr_table.specs.inner.EntrySteps.{AddsSources}
-use Rattle.lgr_table.specs.inner.FaultSteps.{HasEntriesOf, TellsEntry, TellsSources, TellsVariants, point_count}
-use Rattle.variant_table.specs.WellFormed.{IsTable}
+use Rattle.lgr_table.specs.inner.FaultSteps.{HasDefinitionsOf, HasEntriesOf, TellsEntry, TellsSources, TellsVariants, point_count}
 use Rattle.lgr_table.proofs.CalledLemmas.{mapped-more}
 use Rattle.lgr_table.proofs.EntryLemmas.{singles}
 use Rattle.lgr_table.proofs.FaultLemmas.{in-flat}
@@ -427,15 +426,15 @@ sources-of may n before t is s h =
     (kept-among may n (map entry before) s (subst (λ l. Contains (sources_in l) s) is h))
 
 pub told-entry : (may : ℕ → Bool) (r : Ruleset) (n : Numbering) (before after : List Held) (e : Held) (t u : TableValue) (told : TableError)
-    → r.entries.items ≡ before ++ e ∷ after → HasEntriesOf may n before t u → IsTable t → TellsSources may n e (sources (source e.source)) u told
+    → r.entries.items ≡ before ++ e ∷ after → HasEntriesOf may n before t u → HasDefinitionsOf may r n t → TellsSources may n e (sources (source e.source)) u told
     → IsFaultOfTable may r told
-told-entry may r n before after e t u (Fault Syntax line) all has is_table is = absurd is
-told-entry may r n before after e t u (Fault SameSource line) all has is_table is =
+told-entry may r n before after e t u (Fault Syntax line) all has defined is = absurd is
+told-entry may r n before after e t u (Fault SameSource line) all has defined is =
     sources-twice r before after e u line all (sources-of may n before u (ap (λ (w : TableValue). w.entries) has)) is.0 (is.1, is.2, is.3)
-told-entry may r n before after e t u (Fault SameVariant line) all has is_table is =
+told-entry may r n before after e t u (Fault SameVariant line) all has defined is =
     record { entry = e; among = stands-there r before after e all; number = is.0; twice = is.1; here = is.2 }
-told-entry may r n before after e t u (Fault BadClass line) all has is_table is = absurd is
-told-entry may r n before after e t u (Fault Limit line) all has is_table is = inr (inr (inl (record {
+told-entry may r n before after e t u (Fault BadClass line) all has defined is = absurd is
+told-entry may r n before after e t u (Fault Limit line) all has defined is = inr (inr (inl (record {
   before = before;
   this = e;
   after = after;
@@ -443,14 +442,15 @@ told-entry may r n before after e t u (Fault Limit line) all has is_table is = i
   here = is.0;
   numbers = n;
   table = t;
-  is_table = is_table;
+  is_table = defined.is_table;
+  defines = defined.defines;
   entries = all_entries may n (map entry before);
   are = refl;
   lack = subst (LackRoom may n e (sources (source e.source))) has is.1;
 })))
-told-entry may r n before after e t u (Fault NoSuchName line) all has is_table is = absurd is
-told-entry may r n before after e t u (Fault SameName line) all has is_table is = absurd is
-told-entry may r n before after e t u (Fault NotSupported line) all has is_table is = inr (inr (inr (record {
+told-entry may r n before after e t u (Fault NoSuchName line) all has defined is = absurd is
+told-entry may r n before after e t u (Fault SameName line) all has defined is = absurd is
+told-entry may r n before after e t u (Fault NotSupported line) all has defined is = inr (inr (inr (record {
   this = e;
   among = stands-there r before after e all;
   source_ = is.0;
@@ -458,7 +458,7 @@ told-entry may r n before after e t u (Fault NotSupported line) all has is_table
   kept = is.2;
   odd = is.3;
 })))
-told-entry may r n before after e t u Memory all has is_table is = tt
+told-entry may r n before after e t u Memory all has defined is = tt
 
 -- an element, with what is before and after it
 pub split-at : (xs : List Held) (i : ℕ) (x : Held) → i < length xs → x ≡ get_or xs i x → xs ≡ take i xs ++ x ∷ drop (suc i) xs

@@ -16,8 +16,7 @@ use Rattle.lgr_table.specs.Entries.{all_entries}
 use Rattle.lgr_text.specs.Meanings.{Meanings, RuleHolds}
 use Rattle.lgr_text.specs.Names.{IsRuleOf, asked, asked_rules}
 use Rattle.lgr_table.specs.Numbers.{Numbering}
-use Rattle.lgr_text.specs.Demands.{demanded}
-use Rattle.lgr_table.specs.Tables.{IsOfSources, IsTableOf, SayActions, SayDemands, SayRules, acting, may_stand}
+use Rattle.lgr_table.specs.Tables.{Defines, IsOfSources, IsTableOf, SayRules, may_stand}
 use Rattle.lgr_table.specs.TableNames.{AreCalled, has_name, keeps_rule, names_with}
 use Rattle.lgr_table.specs.inner.RuleSteps.{HasNoRules}
 use Rattle.lgr_table.specs.inner.Steps.{AddsActions, AddsEntries, AddsRules, AddsTypes}
@@ -59,102 +58,117 @@ types_count : (may : ℕ → Bool) (r : Ruleset) (types : List (Option (List ℕ
 types_count may r types t u adds = called-count (names_with types r) is_name (map name_of types) u.definitions.types adds.called ∙ length-map types name_of
 
 -- the properties, the file, the numbers; the table at first, and after each step
-module _ (properties : Properties) (r : Ruleset) (n : Numbering) (start a b c e : TableValue) (begins : start ≡ empty_table properties Three)
-    (types : AddsTypes (may_stand start.definitions.properties) r n.types start a)
-    (rules : AddsRules (may_stand a.definitions.properties) r n.types n.rules a b)
-    (actions : AddsActions r n b c)
-    (entries : AddsEntries (may_stand c.definitions.properties) r n c e)
-    (is : IsTable e) where
+module _ (properties : Properties) (r : Ruleset) (types_ : List (Option (List ℕ))) (rules_ : List (List ℕ)) (n : Numbering) (start a b c : TableValue)
+    (numbered : n ≡ record { types = types_; rules = rules_ }) (begins : start ≡ empty_table properties Three)
+    (types : AddsTypes (may_stand start.definitions.properties) r types_ start a)
+    (rules : AddsRules (may_stand a.definitions.properties) r types_ rules_ a b)
+    (actions : AddsActions r n b c) where
   start_by : start.definitions.properties ≡ properties
   start_by = ap (λ (t : TableValue). t.definitions.properties) begins
 
   a_by : a.definitions.properties ≡ properties
   a_by = ap (λ (t : TableValue). t.definitions.properties) types.others ∙ start_by
 
-  b_by : b.definitions.properties ≡ properties
-  b_by = ap (λ (t : TableValue). t.definitions.properties) rules.others ∙ a_by
-
   c_by : c.definitions.properties ≡ properties
-  c_by = ap (λ (t : TableValue). t.definitions.properties) actions.others ∙ b_by
+  c_by = ap (λ (t : TableValue). t.definitions.properties) actions.others ∙ ap (λ (t : TableValue). t.definitions.properties) rules.others ∙ a_by
 
   abbrev may : ℕ → Bool
   may = may_stand properties
 
   its_types : AddsTypes may r n.types start a
-  its_types = subst (λ (p : Properties). AddsTypes (may_stand p) r n.types start a) start_by types
+  its_types =
+      subst (λ (k : Numbering). AddsTypes may r k.types start a) (sym numbered) (subst (λ (p : Properties). AddsTypes (may_stand p) r types_ start a) start_by types)
 
   its_rules : AddsRules may r n.types n.rules a b
-  its_rules = subst (λ (p : Properties). AddsRules (may_stand p) r n.types n.rules a b) a_by rules
+  its_rules =
+      subst (λ (k : Numbering). AddsRules may r k.types k.rules a b) (sym numbered)
+      (subst (λ (p : Properties). AddsRules (may_stand p) r types_ rules_ a b) a_by rules)
 
-  its_entries : AddsEntries may r n c e
-  its_entries = subst (λ (p : Properties). AddsEntries (may_stand p) r n c e) c_by entries
+  same_types : c.definitions.types ≡ a.definitions.types
+  same_types = ap (λ (t : TableValue). t.definitions.types) actions.others ∙ ap (λ (t : TableValue). t.definitions.types) its_rules.others
 
-  same_entries : e.entries ≡ all_entries may n r.entries
-  same_entries = ap (λ (t : TableValue). t.entries) its_entries.others
-
-  same_definitions : e.definitions ≡ c.definitions
-  same_definitions = ap (λ (t : TableValue). t.definitions) its_entries.others
-
-  same_types : e.definitions.types ≡ a.definitions.types
-  same_types = ap (λ d. d.types) same_definitions ∙ ap (λ (t : TableValue). t.definitions.types) actions.others ∙ ap (λ (t : TableValue). t.definitions.types) its_rules.others
-
-  say_rules : SayRules r its_rules.meanings n e
-  say_rules =
-      let sets : e.definitions.sets ≡ b.definitions.sets = ap (λ d. d.sets) same_definitions ∙ ap (λ (t : TableValue). t.definitions.sets) actions.others in
-      let patterns : e.definitions.rules ≡ b.definitions.rules = ap (λ d. d.rules) same_definitions ∙ ap (λ (t : TableValue). t.definitions.rules) actions.others in
-      subst (λ (x : List Pattern). SayTheRules r its_rules.meanings n (record { entries = e.entries; sets = e.definitions.sets; rules = x })) (sym patterns)
-      (subst (λ (x : List (List Span)). SayTheRules r its_rules.meanings n (record { entries = e.entries; sets = x; rules = b.definitions.rules })) (sym sets)
-      (subst (λ (x : List Entry). SayTheRules r its_rules.meanings n (record { entries = x; sets = b.definitions.sets; rules = b.definitions.rules })) (sym same_entries)
-      (its_rules.say_rules n refl)))
-
-  asked_there : All (IsRuleOf r) (asked_rules r)
-  asked_there =
-      All-append (IsRuleOf r) (flat_map (λ e. asked e.condition ++ flat_map (λ v. asked v.condition) e.variants) r.entries) (flat_map (λ a. asked a.condition) r.actions)
-      (λ k d l. is_rule r its_rules.meanings n e say_rules _ (its_entries.asked_for k d l))
-      (λ k d l. is_rule r its_rules.meanings n e say_rules _ (actions.asked_for k d l))
-
-  pub is_table_of : IsTableOf properties r e
-  is_table_of = record {
-    meanings = its_rules.meanings;
-    numbering = n;
+  pub defines : Defines may r n c
+  defines = record {
+    version = ap (λ (t : TableValue). t.version) actions.others ∙ ap (λ (t : TableValue). t.version) its_rules.others
+        ∙ ap (λ (t : TableValue). t.version) its_types.others ∙ ap (λ (t : TableValue). t.version) begins;
+    numbers = record {
+      types = its_types.are.known;
+      own = its_types.are.own;
+      untyped = its_types.are.untyped;
+      each_type = its_types.are.each_type;
+      each_rule = its_rules.each_rule;
+    };
     names = record {
-      once = its_rules.once;
-      asked = asked_there;
-      classes = its_rules.classes;
-      rules = its_rules.named;
-      rank = its_rules.rank;
-      below = its_rules.below;
+      types = subst (AreCalled (names_with n.types r) is_name (map name_of n.types)) (sym same_types) its_types.called;
+      rules = subst (AreCalled (names_with n.types r) (keeps_rule (names_with n.types r)) n.rules)
+          (sym (ap (λ (t : TableValue). t.definitions.rule_names) actions.others)) its_rules.called.rules;
+      sets = subst (All (λ given. has_name (names_with n.types r) given ≡ false))
+          (sym (ap (λ (t : TableValue). t.definitions.set_names) actions.others)) its_rules.called.sets;
     };
-    are_meant = its_rules.are_meant;
-    says = record {
-      well_formed = is;
-      version = ap (λ (t : TableValue). t.version) its_entries.others ∙ ap (λ (t : TableValue). t.version) actions.others
-          ∙ ap (λ (t : TableValue). t.version) its_rules.others ∙ ap (λ (t : TableValue). t.version) its_types.others
-          ∙ ap (λ (t : TableValue). t.version) begins;
-      by_these = ap (λ d. d.properties) same_definitions ∙ c_by;
-      numbers = record {
-        types = its_types.are.known;
-        own = its_types.are.own;
-        untyped = its_types.are.untyped;
-        each_type = its_types.are.each_type;
-        each_rule = its_rules.each_rule;
-      };
-      names = record {
-        types = subst (AreCalled (names_with n.types r) is_name (map name_of n.types)) (sym same_types) its_types.called;
-        rules = subst (AreCalled (names_with n.types r) (keeps_rule (names_with n.types r)) n.rules)
-            (sym (ap (λ d. d.rule_names) same_definitions ∙ ap (λ (t : TableValue). t.definitions.rule_names) actions.others)) its_rules.called.rules;
-        sets = subst (All (λ given. has_name (names_with n.types r) given ≡ false))
-            (sym (ap (λ d. d.set_names) same_definitions ∙ ap (λ (t : TableValue). t.definitions.set_names) actions.others)) its_rules.called.sets;
-      };
-      types = ap length same_types ∙ types_count may r n.types start a its_types;
-      rules = ap (λ d. length d.rules) same_definitions ∙ ap (λ (t : TableValue). length t.definitions.rules) actions.others ∙ its_rules.count;
-      of_one_type = its_entries.of_one_type;
-      entries = same_entries;
-      say_rules = say_rules;
-      demands = subst (λ d. SayDemands n d (demanded r.actions) d.demands) (sym same_definitions) actions.demands;
-      actions = subst (λ d. SayActions n d (acting r.actions) d.actions) (sym same_definitions) actions.say;
-    };
+    types = ap length same_types ∙ types_count may r n.types start a its_types;
+    rules = ap (λ (t : TableValue). length t.definitions.rules) actions.others ∙ its_rules.count;
+    demands = actions.demands;
+    actions = actions.say;
   }
+
+  module _ (e : TableValue) (entries : AddsEntries (may_stand c.definitions.properties) r n c e) (is : IsTable e) where
+    its_entries : AddsEntries may r n c e
+    its_entries = subst (λ (p : Properties). AddsEntries (may_stand p) r n c e) c_by entries
+
+    same_entries : e.entries ≡ all_entries may n r.entries
+    same_entries = ap (λ (t : TableValue). t.entries) its_entries.others
+
+    same_definitions : e.definitions ≡ c.definitions
+    same_definitions = ap (λ (t : TableValue). t.definitions) its_entries.others
+
+    still_defines : Defines may r n e
+    still_defines = subst (Defines may r n) (sym its_entries.others) (record {
+      version = defines.version;
+      numbers = defines.numbers;
+      names = defines.names;
+      types = defines.types;
+      rules = defines.rules;
+      demands = defines.demands;
+      actions = defines.actions;
+    })
+
+    say_rules : SayRules r its_rules.meanings n e
+    say_rules =
+        let sets : e.definitions.sets ≡ b.definitions.sets = ap (λ d. d.sets) same_definitions ∙ ap (λ (t : TableValue). t.definitions.sets) actions.others in
+        let patterns : e.definitions.rules ≡ b.definitions.rules = ap (λ d. d.rules) same_definitions ∙ ap (λ (t : TableValue). t.definitions.rules) actions.others in
+        subst (λ (x : List Pattern). SayTheRules r its_rules.meanings n (record { entries = e.entries; sets = e.definitions.sets; rules = x })) (sym patterns)
+        (subst (λ (x : List (List Span)). SayTheRules r its_rules.meanings n (record { entries = e.entries; sets = x; rules = b.definitions.rules })) (sym sets)
+        (subst (λ (x : List Entry). SayTheRules r its_rules.meanings n (record { entries = x; sets = b.definitions.sets; rules = b.definitions.rules })) (sym same_entries)
+        (its_rules.say_rules n refl)))
+
+    asked_there : All (IsRuleOf r) (asked_rules r)
+    asked_there =
+        All-append (IsRuleOf r) (flat_map (λ e. asked e.condition ++ flat_map (λ v. asked v.condition) e.variants) r.entries) (flat_map (λ a. asked a.condition) r.actions)
+        (λ k d l. is_rule r its_rules.meanings n e say_rules _ (its_entries.asked_for k d l))
+        (λ k d l. is_rule r its_rules.meanings n e say_rules _ (actions.asked_for k d l))
+
+    pub is_table_of : IsTableOf properties r e
+    is_table_of = record {
+      meanings = its_rules.meanings;
+      numbering = n;
+      names = record {
+        once = its_rules.once;
+        asked = asked_there;
+        classes = its_rules.classes;
+        rules = its_rules.named;
+        rank = its_rules.rank;
+        below = its_rules.below;
+      };
+      are_meant = its_rules.are_meant;
+      says = record {
+        well_formed = is;
+        by_these = ap (λ d. d.properties) same_definitions ∙ c_by;
+        defines = still_defines;
+        of_one_type = its_entries.of_one_type;
+        entries = same_entries;
+        say_rules = say_rules;
+      };
+    }
 
 -- ---- what each step asks for: nothing is defined at first, and no step defines what another one does
 

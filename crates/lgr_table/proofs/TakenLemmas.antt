@@ -7,7 +7,6 @@ use Rattle.std.proofs.lemmas.List.Elements.{All-append, All-head, All-nil, All-p
 use Rattle.std.proofs.lemmas.List.Quantifiers.{all_pairs_push}
 use Rattle.label_patterns.specs.declared.span.Span.{Span}
 use Rattle.label_patterns.specs.Patterns as pattern
-use Rattle.label_patterns.specs.Patterns.{Pattern}
 use Rattle.label_patterns.specs.Sets.{is_in}
 use Rattle.ruleset_text.specs.Names.{number_of}
 use Rattle.lgr_text.proofs.PartLemmas.{begins-so}

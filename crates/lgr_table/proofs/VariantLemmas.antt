@@ -5,7 +5,7 @@ use Rattle.std.proofs.lemmas.List.{map-append, take-append-drop}
 use Rattle.std.proofs.lemmas.List.Elements.{All-contains, Contains-append_right, filter-append}
 use Rattle.std.proofs.Math.Seq.{drop-cons}
 use Rattle.lgr_text.specs.Records as lgr
-use Rattle.lgr_text.specs.Records.{condition, entry, variant}
+use Rattle.lgr_text.specs.Records.{condition, variant}
 use Rattle.lgr_text.specs.declared.records.Condition.{Condition}
 use Rattle.std.specs.Option.{option_map}
 use Rattle.variant_table.specs.declared.fault.EntryFault.{EntryFault}

@@ -1,7 +1,7 @@
 -- What is told of a ruleset that has no table: what is wrong with it, and the line of the element that has it. Lines
 -- are those that its elements have in memory, beside what they say. Of each code point it is known whether a table may
 -- hold it.
-use Rattle.std.specs.Prelude.{◌≡◌, ◌≢◌, ◌⊎◌, ℕ, ◌<◌, ◌≤◌, Bool, true, IsTrue, List, [], ◌∷◌, ◌++◌, Option, Some, None}
+use Rattle.std.specs.Prelude.{◌≡◌, ◌≢◌, ◌⊎◌, ◌↔◌, ℕ, ◌<◌, ◌≤◌, Bool, true, IsTrue, List, [], ◌∷◌, ◌++◌, Option, Some, None}
 use Rattle.std.specs.Prelude.{AllPairs, Contains, filter, length, map, slice_index, slice_index_or, take}
 use Rattle.std.specs.List.{flat_map}
 use Rattle.label_patterns.specs.Sets.{is_in}
@@ -22,9 +22,11 @@ use Rattle.lgr_text.specs.declared.records.Variant.{Variant}
 use Rattle.lgr_text.specs.declared.rule_error.RuleFault.{RuleFault}
 use Rattle.lgr_text.specs.declared.rule_error.RuleFault.TheVariants as rule
 use Rattle.lgr_text.specs.Repertoire.{is_reflexive, may_be, sources}
+use Rattle.lgr_text.specs.Meanings.{IsKept}
 use Rattle.lgr_table.specs.Entries.{HasOneType, all_entries, entry_with, needs_type}
 use Rattle.lgr_text.specs.Names.{IsRuleOf}
 use Rattle.lgr_table.specs.Numbers.{Numbering, types_of, types_with}
+use Rattle.lgr_table.specs.Tables.{Defines}
 use Rattle.lgr_table.specs.declared.fault.TableError.{TableError}
 use Rattle.lgr_table.specs.declared.fault.TableError.TheVariants.{Fault, Memory}
 use Rattle.lgr_table.specs.declared.fault.TableFault.{TableFault}
@@ -54,9 +56,11 @@ abbrev pub IsKnown : Known → List (List Span) → List ℕ → Meaning → Typ
 IsKnown known sets name (IsClass class) = IsKnownClass known name class
 IsKnown known sets name (IsRule rule) = IsKnownRule known sets name rule
 
--- such definitions are known, among the entries of the ruleset. The anchor stands in each branch of a pattern, or in none
-pub record Knows (r : Ruleset) (Such : Definition → Type 0) (known : Known) : Type 0 where
+-- such definitions are known, among the entries of the ruleset, and the code points of those that a table may hold. The
+-- anchor stands in each branch of a pattern, or in none
+pub record Knows (may : ℕ → Bool) (r : Ruleset) (Such : Definition → Type 0) (known : Known) : Type 0 where
   pub entries : known.entries ≡ map entry r.entries.items
+  pub points : (c : ℕ) → IsTrue (is_in known.points c) ↔ IsKept may known.entries c
   pub sets : List (List Span)
   pub each : (d : Definition) → Such d → IsKnown known sets d.name (meaning d.meaning)
   pub branches : HaveBranches known.rules
@@ -67,24 +71,24 @@ HasPlace ds numbers d = (p : ℕ) × (p < length numbers) × (slice_index_or ds 
 
 -- the definition has a place in an order of all, in which each comes after those that it names; what comes before it is
 -- known
-pub record ComesNext (r : Ruleset) (d : Definition) (known : Known) : Type 0 where
+pub record ComesNext (may : ℕ → Bool) (r : Ruleset) (d : Definition) (known : Known) : Type 0 where
   pub numbers : List ℕ
   pub ordered : IsOrder r.definitions.items numbers
   pub place : ℕ
   pub within : place < length numbers
   pub here : slice_index_or r.definitions.items (slice_index numbers place) d ≡ d
-  pub knows : Knows r (HasPlace r.definitions.items (take place numbers)) known
+  pub knows : Knows may r (HasPlace r.definitions.items (take place numbers)) known
 
 abbrev pub meaning_fault : Known → Meaning → Option RuleFault
 meaning_fault known (IsClass class) = class_fault known class
 meaning_fault known (IsRule rule) = part_fault known rule
 
 -- a definition on this line has this fault, by the tags of the entries and by what the definitions before it say
-pub record HasWrongDefinition (r : Ruleset) (fault : RuleFault) (line : ℕ) : Type 0 where
+pub record HasWrongDefinition (may : ℕ → Bool) (r : Ruleset) (fault : RuleFault) (line : ℕ) : Type 0 where
   pub definition : Definition
   pub here : line ≡ definition.line
   pub known : Known
-  pub next : ComesNext r definition known
+  pub next : ComesNext may r definition known
   pub wrong : meaning_fault known (meaning definition.meaning) ≡ Some fault
 
 -- ---- conditions
@@ -109,14 +113,14 @@ pub record AsksForNoRule (r : Ruleset) (line : ℕ) : Type 0 where
   pub undefined : IsRuleOf (file r) condition.rule.name → ⊥
 
 -- one of an action asks for a rule that has the anchor; on this line stands the action, or the rule's name
-pub record AsksForAnchor (r : Ruleset) (line : ℕ) : Type 0 where
+pub record AsksForAnchor (may : ℕ → Bool) (r : Ruleset) (line : ℕ) : Type 0 where
   pub action : Action
   pub among : Contains r.actions.items action
   pub condition : Condition
   pub asks : Contains (given action.condition) condition
   pub here : (line ≡ action.line) ⊎ (line ≡ condition.rule.line)
   pub known : Known
-  pub knows : Knows r (Contains r.definitions.items) known
+  pub knows : Knows may r (Contains r.definitions.items) known
   pub anchored : has_anchor known (OfRule condition.rule.name) ≡ true
 
 -- an action on this line has none of the five dispositions (section 7.3)
@@ -237,7 +241,7 @@ pub record LackRoom (may : ℕ → Bool) (n : Numbering) (e : Entry) (all : List
   pub over : is_over_limit t.version t.definitions
       (t.entries ++ map (entry_with may n (entry e)) (filter (may_be may) before)) (mapped ∷ []) ≡ true
 
--- so does that of the entry on this line, where a table has the entries before it
+-- so does that of the entry on this line, where a table has what the ruleset defines, and the entries before it
 pub record HasEntryTooMany (may : ℕ → Bool) (r : Ruleset) (line : ℕ) : Type 0 where
   pub before : List Entry
   pub this : Entry
@@ -247,6 +251,7 @@ pub record HasEntryTooMany (may : ℕ → Bool) (r : Ruleset) (line : ℕ) : Typ
   pub numbers : Numbering
   pub table : TableValue
   pub is_table : IsTable table
+  pub defines : Defines may (file r) numbers table
   pub entries : List tables.Entry
   pub are : entries ≡ all_entries may numbers (map entry before)
   pub lack : LackRoom may numbers this (sources (source this.source)) (record table { entries = entries })
@@ -255,18 +260,18 @@ pub record HasEntryTooMany (may : ℕ → Bool) (r : Ruleset) (line : ℕ) : Typ
 
 -- on this line a class or a rule is named that isn't defined; or a definition stands there that is part of itself, or
 -- names one that is; or one that names a tag which no entry has; or a condition asks for a rule that isn't defined
-abbrev pub NamesNothing : Ruleset → ℕ → Type 0
-NamesNothing r line =
+abbrev pub NamesNothing : (ℕ → Bool) → Ruleset → ℕ → Type 0
+NamesNothing may r line =
     IsOrderFault r.definitions.items (order.Undefined line)
     ⊎ (IsOrderFault r.definitions.items (order.Circular line)
-    ⊎ (HasWrongDefinition r rule.Undefined line ⊎ AsksForNoRule r line))
+    ⊎ (HasWrongDefinition may r rule.Undefined line ⊎ AsksForNoRule r line))
 
 -- there a definition has a property that isn't known, or an anchor where no pattern has one; or an action asks for the
 -- anchor, or has a disposition of its own; or an entry has a variant that no table says
 abbrev pub IsNotSupported : (ℕ → Bool) → Ruleset → ℕ → Type 0
 IsNotSupported may r line =
-    HasWrongDefinition r rule.NotSupported line
-    ⊎ (AsksForAnchor r line ⊎ (HasOtherDisposition r line ⊎ HasVariantOfNoTable may r line))
+    HasWrongDefinition may r rule.NotSupported line
+    ⊎ (AsksForAnchor may r line ⊎ (HasOtherDisposition r line ⊎ HasVariantOfNoTable may r line))
 
 -- there is the first of too many definitions; or there are too many types; or an entry is too much for a table, or a
 -- rule or an action, of which isn't said what they go past
@@ -278,12 +283,12 @@ IsTooMuch may r line =
 -- 'Syntax' is a start or an end of labels that stands where it may not (section 6.3.8). No ruleset has a code point that
 -- no label has: what has one is left out
 abbrev pub HasFault : (ℕ → Bool) → Ruleset → TableFault → ℕ → Type 0
-HasFault may r told.Syntax line = HasWrongDefinition r rule.Misplaced line
+HasFault may r told.Syntax line = HasWrongDefinition may r rule.Misplaced line
 HasFault may r told.SameSource line = HasSourceTwice r line
 HasFault may r told.SameVariant line = HasVariantTwice r line
 HasFault may r told.BadClass line = ⊥
 HasFault may r told.Limit line = IsTooMuch may r line
-HasFault may r told.NoSuchName line = NamesNothing r line
+HasFault may r told.NoSuchName line = NamesNothing may r line
 HasFault may r told.SameName line = IsOrderFault r.definitions.items (order.Repeated line)
 HasFault may r told.NotSupported line = IsNotSupported may r line
 

@@ -111,21 +111,25 @@ SayDemands n d (c ∷ conditions) (b ∷ demands) = SaysDemand n d c b × SayDem
 
 -- ---- the table
 
--- a well-formed table: its entries are those of the file, less what no label has; and so are its types, rules, demands
--- and actions, by these numbers and with their names
-pub record Says (properties : Properties) (r : Ruleset) (m : Meanings) (n : Numbering) (t : TableValue) : Type 0 where
-  pub well_formed : IsTable t
+-- the types, rules, demands and actions of a table of version 3 are those of the file, by these numbers and with their
+-- names
+pub record Defines (may : ℕ → Bool) (r : Ruleset) (n : Numbering) (t : TableValue) : Type 0 where
   pub version : t.version ≡ Three
-  pub by_these : t.definitions.properties ≡ properties
-  pub numbers : IsNumbering (may_stand properties) r n
+  pub numbers : IsNumbering may r n
   pub names : AreTableNames (names_with n.types r) n.rules t.definitions
   pub types : length t.definitions.types ≡ length n.types
   pub rules : length t.definitions.rules ≡ length n.rules
+  pub demands : SayDemands n t.definitions (demanded r.actions) t.definitions.demands
+  pub actions : SayActions n t.definitions (acting r.actions) t.definitions.actions
+
+-- a well-formed table: it defines what the file does, and its entries are those of the file, less what no label has
+pub record Says (properties : Properties) (r : Ruleset) (m : Meanings) (n : Numbering) (t : TableValue) : Type 0 where
+  pub well_formed : IsTable t
+  pub by_these : t.definitions.properties ≡ properties
+  pub defines : Defines (may_stand properties) r n t
   pub of_one_type : AreOfOneType (may_stand properties) r.entries
   pub entries : t.entries ≡ all_entries (may_stand properties) n r.entries
   pub say_rules : SayRules r m n t
-  pub demands : SayDemands n t.definitions (demanded r.actions) t.definitions.demands
-  pub actions : SayActions n t.definitions (acting r.actions) t.definitions.actions
 
 -- the table says what the file says, whose names are all defined
 pub record IsTableOf (properties : Properties) (r : Ruleset) (t : TableValue) : Type 0 where

@@ -49,7 +49,7 @@ pub(crate) fn define_actions(
     requires rules { length builder.old.definitions.rule_names ≡ length numbers.now.rules }
     ensures added { OnOk result (AddsActions (file ruleset.now) numbers.now builder.old builder.new) }
     ensures fault { (may : ℕ → Bool) → HasRulesOf ruleset.now numbers.now.rules →
-        KnowsRules ruleset.now numbers.now.rules builder.old.definitions.rules →
+        KnowsRules may ruleset.now numbers.now.rules builder.old.definitions.rules →
         IfErr result (IsFaultOfTable may ruleset.now) }
 {
     let actions: &[Action] = &ruleset.actions;
@@ -103,7 +103,7 @@ fn define_demands(
     ensures added { OnOk result (AddsDemands numbers.now (filter_map rule_alone (map action_of actions.now))
         builder.old builder.new) }
     ensures fault { (may : ℕ → Bool) (r : held.Ruleset) → All (Contains r.actions.items) actions.now →
-        HasRulesOf r numbers.now.rules → KnowsRules r numbers.now.rules builder.old.definitions.rules →
+        HasRulesOf r numbers.now.rules → KnowsRules may r numbers.now.rules builder.old.definitions.rules →
         IfErr result (IsFaultOfTable may r) }
 {
     for action in actions {
@@ -124,7 +124,7 @@ fn define_demand(
     ensures added { OnOk result (AddsDemand numbers.now (condition_of condition.now) builder.old builder.new) }
     ensures fault { (may : ℕ → Bool) (r : held.Ruleset) (a : held_action.Action) → Contains r.actions.items a →
         Contains (given a.condition) condition.now → HasRulesOf r numbers.now.rules →
-        KnowsRules r numbers.now.rules builder.old.definitions.rules → IfErr result (IsFaultOfTable may r) }
+        KnowsRules may r numbers.now.rules builder.old.definitions.rules → IfErr result (IsFaultOfTable may r) }
 {
     let line = condition.rule.line;
     let number = numbers.rule_number(condition.rule.name.as_slice());
@@ -207,7 +207,7 @@ fn define_others(
     ensures defined { OnOk result (HaveDefined numbers.now builder.old builder.new
         (filter (λ a. not (is_some (rule_alone a))) (map action_of actions.now))) }
     ensures fault { (may : ℕ → Bool) (r : held.Ruleset) → All (Contains r.actions.items) actions.now →
-        HasRulesOf r numbers.now.rules → KnowsRules r numbers.now.rules builder.old.definitions.rules →
+        HasRulesOf r numbers.now.rules → KnowsRules may r numbers.now.rules builder.old.definitions.rules →
         IfErr result (IsFaultOfTable may r) }
 {
     for action in actions {
@@ -231,7 +231,7 @@ fn define_each(
     ensures defined { (t : TableValue) (before : List records.Action) → HaveDefined numbers.now t builder.old before →
         OnOk result (HaveDefined numbers.now t builder.new (before ++ map action_of actions.now)) }
     ensures fault { (may : ℕ → Bool) (r : held.Ruleset) → All (Contains r.actions.items) actions.now →
-        HasRulesOf r numbers.now.rules → KnowsRules r numbers.now.rules builder.old.definitions.rules →
+        HasRulesOf r numbers.now.rules → KnowsRules may r numbers.now.rules builder.old.definitions.rules →
         IfErr result (IsFaultOfTable may r) }
 {
     for action in actions {
@@ -252,7 +252,7 @@ fn define_action(
     requires types { AreNamesOf numbers.now builder.old.definitions types.now }
     ensures added { OnOk result (AddsAction numbers.now (action_of action.now) builder.old builder.new) }
     ensures fault { (may : ℕ → Bool) (r : held.Ruleset) → Contains r.actions.items action.now →
-        HasRulesOf r numbers.now.rules → KnowsRules r numbers.now.rules builder.old.definitions.rules →
+        HasRulesOf r numbers.now.rules → KnowsRules may r numbers.now.rules builder.old.definitions.rules →
         IfErr result (IsFaultOfTable may r) }
 {
     check_rule(numbers, &action.condition)?;

@@ -12,11 +12,10 @@ ghost use Rattle.lgr_table.specs.Faults.{IsFaultOfTable, IsSameVariant, StandsEa
 ghost use Rattle.lgr_text.specs.Names.{asked, asked_by};
 ghost use Rattle.lgr_table.specs.Tables.{may_stand};
 ghost use Rattle.lgr_table.specs.inner.EntrySteps.{AddsEntry, AddsSources};
-ghost use Rattle.lgr_table.specs.inner.FaultSteps.{AreAllIn, HasEntriesOf, HasRulesOf, TellsEntry, TellsRepeated};
-ghost use Rattle.lgr_table.specs.inner.FaultSteps.{TellsSources, point_count};
+ghost use Rattle.lgr_table.specs.inner.FaultSteps.{AreAllIn, HasDefinitionsOf, HasEntriesOf, HasRulesOf};
+ghost use Rattle.lgr_table.specs.inner.FaultSteps.{TellsEntry, TellsRepeated, TellsSources, point_count};
 ghost use Rattle.lgr_table.specs.inner.Steps.{AddsEntries, AreAmong};
 ghost use Rattle.variant_table.specs.Entries.{TableValue};
-ghost use Rattle.variant_table.specs.WellFormed.{IsTable};
 
 use crate::fault::{TableError, TableFault};
 use crate::kept::may_be;
@@ -42,9 +41,9 @@ pub(crate) fn add_entries(
     requires rules { length builder.old.definitions.rule_names ≡ length numbers.now.rules }
     ensures added { OnOk result (AddsEntries (may_stand builder.old.definitions.properties) (file «ruleset».now)
         numbers.now builder.old builder.new) }
-    ensures fault { HaveSpans (file «ruleset».now).entries → HasRulesOf «ruleset».now numbers.now.rules →
-        IsTable builder.old →
-        IfErr result (IsFaultOfTable (may_stand builder.old.definitions.properties) «ruleset».now) }
+    ensures fault { let may = may_stand builder.old.definitions.properties in
+        HaveSpans (file «ruleset».now).entries → HasDefinitionsOf may «ruleset».now numbers.now builder.old →
+        IfErr result (IsFaultOfTable may «ruleset».now) }
 {
     check_ranges(&ruleset.entries)?;
     for entry in &ruleset.entries {
@@ -94,7 +93,7 @@ fn add_entry(
     ensures fault { let may = may_stand builder.old.definitions.properties in
         (r : held.Ruleset) (before after : List held_entry.Entry) (t : TableValue) →
         r.entries.items ≡ before ++ entry.now ∷ after → HasEntriesOf may numbers.now before t builder.old →
-        IsTable t → HasRulesOf r numbers.now.rules → IfErr result (IsFaultOfTable may r) }
+        HasDefinitionsOf may r numbers.now t → IfErr result (IsFaultOfTable may r) }
 {
     check_rules(numbers, entry)?;
     add_sources(alloc, builder, numbers, entry)?;

@@ -75,7 +75,8 @@ impl TableError {
 
     /// Why the definition on this line is no set and no pattern.
     pub(crate) fn of_rule(error: RuleError, line: usize) -> Self
-        ensures { (may : ℕ → Bool) (r : held.Ruleset) → TellsOfDefinition r line error → IsFaultOfTable may r result }
+        ensures { (may : ℕ → Bool) (r : held.Ruleset) → TellsOfDefinition may r line error →
+            IsFaultOfTable may r result }
     {
         match error {
             RuleError::Fault(RuleFault::Undefined) => TableFault::NoSuchName.on(line),

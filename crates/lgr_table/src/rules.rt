@@ -38,8 +38,9 @@ pub(crate) fn define_rules(
         AddsRules (may_stand builder.old.definitions.properties) (file ruleset.now) types.now rules.items
         builder.old builder.new) }
     ensures all { IfOk result (λ rules. HasRulesOf ruleset.now rules.items) }
-    ensures known { IfOk result (λ rules. KnowsRules ruleset.now rules.items builder.new.definitions.rules) }
-    ensures fault { (may : ℕ → Bool) → IfErr result (IsFaultOfTable may ruleset.now) }
+    ensures known { IfOk result (λ rules. KnowsRules (may_stand builder.old.definitions.properties) ruleset.now
+        rules.items builder.new.definitions.rules) }
+    ensures fault { IfErr result (IsFaultOfTable (may_stand builder.old.definitions.properties) ruleset.now) }
 {
     let properties = builder.definitions().properties();
     let points = points_of(alloc, properties, &ruleset.entries)?;
@@ -97,7 +98,7 @@ fn take(
         let points = repertoire.entry.points.now in
         let known = known_by entries points taken.old builder.old.definitions.rules in
         (may : ℕ → Bool) (r : held.Ruleset) → Contains r.definitions.items definition.now →
-        ComesNext r definition.now known → IfErr result (IsFaultOfTable may r) }
+        ComesNext may r definition.now known → IfErr result (IsFaultOfTable may r) }
 {
     let name = definition.name.as_slice();
     match &definition.meaning {

@@ -1,5 +1,5 @@
 -- Branches of a rule, and what stands before or after each.
-use Rattle.std.proofs.Common.{◌≡◌, ℕ, ◌≤◌, ◌⊎◌, inl, inr, Bool, true, false, ◌&&◌, List, [], ◌∷◌, ◌++◌, length, map, Option, None, refl, ap, sym, subst, ◌∙◌, arith}
+use Rattle.std.proofs.Common.{◌≡◌, ℕ, ◌≤◌, ◌⊎◌, inl, inr, Bool, true, false, List, [], ◌∷◌, ◌++◌, length, map, Option, None, refl, ap, sym, subst, ◌∙◌, arith}
 use Rattle.std.specs.Prelude.{◌↔◌}
 use Rattle.std.specs.List.{AllByRecursion, list_all, list_any}
 use Rattle.label_patterns.specs.declared.span.Span.{Span}
@@ -10,11 +10,11 @@ use Rattle.label_patterns.specs.Rules.{is_context_rule, Holds, HoldsAs, HoldsInO
 use Rattle.ruleset_text.specs.Names.{number_of}
 use Rattle.lgr_text.specs.Known.{Known}
 use Rattle.lgr_text.specs.LabelEnds.{ends_label}
-use Rattle.lgr_text.specs.PartMatches.{has_anchor, is_named, rule_named, then_fault, BeginsWith, MatchesAround, MatchesAsPart, Matching, Place, SaysRule}
+use Rattle.lgr_text.specs.PartMatches.{has_anchor, is_named, rule_named, then_fault, MatchesAround, MatchesAsPart, Matching, Place, SaysRule}
 use Rattle.lgr_text.specs.Records as records
 use Rattle.lgr_text.specs.Records.{Part, Choice, OfRule}
 use Rattle.lgr_text.specs.inner.Branches.{followed, in_choice, joined, preceded, BranchesMatch, HasBranches, HaveBranches, MakesBranches}
-use Rattle.lgr_text.specs.inner.Items.{anchors, has_end, in_sequence, is_item, Appends, Follows, HasShape, HaveSets, ItemsMatch}
+use Rattle.lgr_text.specs.inner.Items.{has_end, in_sequence, is_item, Appends, Follows, HasShape, HaveSets, ItemsMatch}
 use Rattle.lgr_text.proofs.ItemLemmas.{items-join, items-split, one-item}
 use Rattle.lgr_text.proofs.PartLemmas.{parts-apart, shape-after, shape-before, begins-so, begins-too}
 use Rattle.lgr_text.proofs.PlaceLemmas.{not-so}

@@ -10,7 +10,7 @@ use Rattle.std.proofs.Math.Seq.{drop-cons}
 use Rattle.label_patterns.specs.declared.span.Span.{Span}
 use Rattle.label_patterns.specs.Laws.{seen}
 use Rattle.label_patterns.specs.Matches.{Seen, HasItsSets}
-use Rattle.label_patterns.specs.Patterns.{Pattern, Point, Set, Optional, Group}
+use Rattle.label_patterns.specs.Patterns.{Pattern, Point, Optional, Group}
 use Rattle.label_patterns.specs.Patterns as pattern
 use Rattle.label_patterns.specs.Rules.{is_context_rule}
 use Rattle.label_patterns.specs.Sets.{is_in}
@@ -25,7 +25,7 @@ use Rattle.lgr_text.specs.declared.rule_error.RuleError.{RuleError}
 use Rattle.lgr_text.specs.declared.rule_error.RuleFault.{RuleFault}
 use Rattle.lgr_text.specs.declared.rule_error.RuleFault.TheVariants.{Misplaced, NotSupported, Undefined}
 use Rattle.lgr_text.specs.PartMatches.{BeginsWith, IsOf, is_named, name_fault, has_anchor, parts_label, rule_named, then_fault, times_fault, Matching, Place, Repeats, IsUpTo, StandThere}
-use Rattle.lgr_text.specs.Records.{Class, Part, Literal, Any, Of, Start, End, Anchor, OfRule, Then, Choice, Times}
+use Rattle.lgr_text.specs.Records.{Class, Part, Literal, Any, Of, Start, End, OfRule, Then, Choice, Times}
 use Rattle.lgr_text.specs.declared.records.Count.{Count}
 use Rattle.lgr_text.specs.inner.Branches.{HaveBranches}
 use Rattle.lgr_text.specs.inner.Faults.{IsFaultOf}

@@ -12,7 +12,7 @@ use Rattle.ruleset_text.specs.Signs as sign
 use Rattle.ruleset_text.specs.Signs.{Sign}
 use Rattle.lgr_text.specs.LabelEnds.{begins_pattern, ends_pattern}
 use Rattle.lgr_text.specs.inner.Branches.{in_choice, HasBranches}
-use Rattle.lgr_text.specs.inner.Items.{as_atom, choice_of, copies, further_up_to, has_end, has_start, in_sequence, is_atom, is_never, is_row, never, nothing, turned, ungrouped, HasShape, IsFree, IsPlain}
+use Rattle.lgr_text.specs.inner.Items.{as_atom, choice_of, copies, further_up_to, has_end, has_start, in_sequence, is_atom, is_never, is_row, nothing, turned, ungrouped, HasShape, IsFree, IsPlain}
 use Rattle.lgr_text.proofs.RowLemmas.{anchored-rule}
 
 -- ---- tests

@@ -3,7 +3,7 @@ use Rattle.std.proofs.Common.{◌≡◌, ℕ, ◌<◌, true, false, List, [], �
 use Rattle.xml_text.specs.Tokens
 use Rattle.xml_text.specs.Tokens.{Token}
 use Rattle.lgr_text.specs.Elements
-use Rattle.lgr_text.specs.Elements.{Content, Say, said_by, text_of}
+use Rattle.lgr_text.specs.Elements.{Content, Say, text_of}
 use Rattle.lgr_text.specs.inner.Reading.{is_text}
 use Rattle.lgr_text.proofs.ContentLemmas.{none-left}
 

@@ -29,7 +29,7 @@ use Rattle.lgr_text.specs.declared.records.Ruleset as held
 use Rattle.lgr_text.specs.declared.fault.ReadError.{ReadError}
 use Rattle.lgr_text.specs.Sections.{Data, Meta, Rules, Section, data_of, meta_of, ruleset_by, ruleset_with, section_of}
 use Rattle.lgr_text.specs.Statements as statements
-use Rattle.lgr_text.specs.Statements.{Acts, Defines, Statement, acting, defined, rules_of, statement_of}
+use Rattle.lgr_text.specs.Statements.{Acts, Defines, Statement, defined, rules_of, statement_of}
 use Rattle.lgr_text.specs.Values.{count, count_between, count_by, count_cut, count_from, each, name_of, not_empty, number, point, points, span, span_between, span_cut, spans}
 use Rattle.lgr_text.specs.WellFormed.{IsWellFormedMeaning, IsWellFormedRuleset}
 use Rattle.lgr_text.specs.Words.{words}

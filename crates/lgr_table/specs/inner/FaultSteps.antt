@@ -18,8 +18,10 @@ use Rattle.lgr_table.specs.Faults.{HasRuleOn, HasWrongDefinition, IsNull, IsRefl
 use Rattle.lgr_table.specs.Faults.{StandsEarlier}
 use Rattle.lgr_text.specs.Names.{IsRuleOf}
 use Rattle.lgr_table.specs.Numbers.{Numbering}
+use Rattle.lgr_table.specs.Tables.{Defines}
 use Rattle.ruleset_text.specs.Names.{number_of}
 use Rattle.variant_table.specs.Entries.{TableValue}
+use Rattle.variant_table.specs.WellFormed.{IsTable}
 use Rattle.variant_table.specs.declared.fault.EntryFault.{EntryFault}
 use Rattle.variant_table.specs.declared.fault.EntryFault.TheVariants as added
 use Rattle.lgr_table.specs.declared.fault.TableError.{TableError}
@@ -31,9 +33,9 @@ abbrev pub HasRulesOf : Ruleset → List (List ℕ) → Type 0
 HasRulesOf r rules = (name : List ℕ) → IsRuleOf (file r) name → Contains rules name
 
 -- all definitions are known, the rules by these names and patterns
-abbrev pub KnowsRules : Ruleset → List (List ℕ) → List Pattern → Type 0
-KnowsRules r names rules =
-    (known : Known) × Knows r (Contains r.definitions.items) known × (known.rule_names ≡ names) × (known.rules ≡ rules)
+abbrev pub KnowsRules : (ℕ → Bool) → Ruleset → List (List ℕ) → List Pattern → Type 0
+KnowsRules may r names rules =
+    (known : Known) × Knows may r (Contains r.definitions.items) known × (known.rule_names ≡ names) × (known.rules ≡ rules)
 
 -- each of these conditions is one of those
 abbrev pub AreAllIn : List Condition → List Condition → Type 0
@@ -42,10 +44,10 @@ AreAllIn all some = (c : Condition) → Contains some c → Contains all c
 -- ---- definitions
 
 -- what is told of a definition on this line
-abbrev pub TellsOfDefinition : Ruleset → ℕ → RuleError → Type 0
-TellsOfDefinition r line (error.Fault wrong.Limit) = HasRuleOn r line
-TellsOfDefinition r line (error.Fault fault) = HasWrongDefinition r fault line
-TellsOfDefinition r line error.Memory = Unit {0}
+abbrev pub TellsOfDefinition : (ℕ → Bool) → Ruleset → ℕ → RuleError → Type 0
+TellsOfDefinition may r line (error.Fault wrong.Limit) = HasRuleOn r line
+TellsOfDefinition may r line (error.Fault fault) = HasWrongDefinition may r fault line
+TellsOfDefinition may r line error.Memory = Unit {0}
 
 -- there is no room for what stands on this line
 abbrev pub IsLimitOn : ℕ → TableError → Type 0
@@ -115,6 +117,12 @@ TellsSources may n e all t (Fault SameSource line) =
 TellsSources may n e all t (Fault NotSupported line) =
     (s : List ℕ) × Contains all s × (may_be may s ≡ true) × (IsNull e line ⊎ IsReflexiveAgain e s line)
 TellsSources may n e all t told = TellsRepeated e.variants.items told
+
+-- the table has got all that the ruleset defines
+pub record HasDefinitionsOf (may : ℕ → Bool) (r : Ruleset) (n : Numbering) (t : TableValue) : Type 0 where
+  pub is_table : IsTable t
+  pub defines : Defines may (file r) n t
+  pub rules : HasRulesOf r n.rules
 
 -- the table has got the entries of these elements
 abbrev pub HasEntriesOf : (ℕ → Bool) → Numbering → List Entry → TableValue → TableValue → Type 0

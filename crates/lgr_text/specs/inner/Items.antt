@@ -1,6 +1,6 @@
 -- Items of a pattern, one after the other.
 use Rattle.std.specs.Prelude.{◌≡◌, ℕ, ◌+◌, ◌↔◌, List, [], ◌∷◌, ◌++◌, ◌&&◌, ◌≤◌, ◌<◌, ◌-◌, zero, suc}
-use Rattle.std.specs.Prelude.{◌⊎◌, map, length, slice_index_or, Option, Some, None, Bool, true, false, if◌then◌else◌}
+use Rattle.std.specs.Prelude.{◌⊎◌, map, length, Option, Some, None, Bool, true, false, if◌then◌else◌}
 use Rattle.std.specs.List.{AllByRecursion, list_all, list_any}
 use Rattle.label_patterns.specs.declared.span.Span.{Span}
 use Rattle.label_patterns.specs.Laws.{seen}

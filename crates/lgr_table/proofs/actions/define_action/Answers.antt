@@ -25,7 +25,7 @@ returns-in-Err-define-clause-fault c = λ may r among has knows.
     let a = c.args.action.now in
     told-anchored may r c.asks_for_anchor-anchored.result a.line c.not_defined.result
     (λ is. (let asks = c.asks_for_anchor-anchored.ensures is in
-    asks-for-anchor r a asks.0 c.args.numbers.now.rules c.args.builder.now.definitions.rules a.line among asks.1 knows
+    asks-for-anchor may r a asks.0 c.args.numbers.now.rules c.args.builder.now.definitions.rules a.line among asks.1 knows
     (subst (λ (d : Definitions). IsAnchored c.args.numbers.now.rules d.rules asks.0.rule.name) c.definitions-2.ensures asks.2) (inl refl)))
     (record { action = a; among = among; here = inl refl })
     c.not_defined.ensures

@@ -43,7 +43,7 @@ returns-in_err-define_others-clause-fault c = λ may has knows.
     let own = c.args.ruleset.now.actions.items in
     let all : All (Contains own) c.deref-actions.result.now = subst (All (Contains own)) (sym c.deref-actions.ensures.value) (All-contains_itself own) in
     let still = ap (λ (t : TableValue). t.definitions.rules) c.in_ok-define_demands.ensures.added.others in
-    rw (p.1, p.2) (c.in_err-define_others.ensures.fault may c.args.ruleset.now (subst (All (Contains own)) (sym c.split_at.ensures.front) (All-take (Contains own) _ _ all)) has (subst (KnowsRules c.args.ruleset.now c.args.numbers.now.rules) (sym still) knows))
+    rw (p.1, p.2) (c.in_err-define_others.ensures.fault may c.args.ruleset.now (subst (All (Contains own)) (sym c.split_at.ensures.front) (All-take (Contains own) _ _ all)) has (subst (KnowsRules may c.args.ruleset.now c.args.numbers.now.rules) (sym still) knows))
 
 pub returns-clause-fault : goal.returns-clause-fault
 returns-clause-fault c = λ may has knows.
@@ -52,4 +52,4 @@ returns-clause-fault c = λ may has knows.
     let first = ap (λ (t : TableValue). t.definitions.rules) c.in_ok-define_demands.ensures.added.others in
     let still = ap (λ (t : TableValue). t.definitions.rules) c.in_ok-define_others.ensures.defined.others ∙ first in
     c.define_each.ensures.fault may c.args.ruleset.now (subst (All (Contains own)) (sym c.split_at.ensures.back) (All-drop (Contains own) _ _ all)) has
-    (subst (KnowsRules c.args.ruleset.now c.args.numbers.now.rules) (sym still) knows)
+    (subst (KnowsRules may c.args.ruleset.now c.args.numbers.now.rules) (sym still) knows)

@@ -37,14 +37,14 @@ returns-then-number-rules-clause-fault c = λ may r a h own has knows.
     let asks = c.args.condition.now in
     let number : c.rule_number-number.result ≡ number_of rules asks.rule.name = c.rule_number-number.ensures.is ∙ ap (number_of rules) c.as_slice.ensures in
     let count : length c.rules.result.now ≡ length rules = ap length c.rules.ensures in
-    subst (IsFaultOfTable may r) (sym c.on.ensures) (asks-for-none r rules asks (of-action r a h asks own) has (omega (arith, number, count)))
+    subst (IsFaultOfTable may r) (sym c.on.ensures) (asks-for-none may r rules asks (of-action r a h asks own) has (omega (arith, number, count)))
 
 pub returns-in-Err-clause-fault : goal.returns-in-Err-clause-fault
 returns-in-Err-clause-fault c = λ may r a h own has knows.
     let asks = c.args.condition.now in
     let line = asks.rule.line in
     told-anchored may r c.has_anchor-anchored.result line c.not_defined.result
-    (λ is. asks-for-anchor r a asks c.args.numbers.now.rules c.args.builder.now.definitions.rules line h own knows
+    (λ is. asks-for-anchor may r a asks c.args.numbers.now.rules c.args.builder.now.definitions.rules line h own knows
     (subst (λ (d : Definitions). IsAnchored c.args.numbers.now.rules d.rules asks.rule.name) c.definitions-2.ensures (c.has_anchor-anchored.ensures is)) (inr refl))
     (record { action = a; among = h; here = inr (in-map (λ (k : Condition). k.rule.line) (given a.condition) asks own) })
     c.not_defined.ensures

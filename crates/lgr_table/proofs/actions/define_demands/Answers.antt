@@ -42,4 +42,4 @@ returns-in_err-define_demand-clause-fault c = λ may r all has knows.
     let own : Contains (given this.condition) c.in-Some.condition.now =
     subst (λ o. IfSome o (λ x. Contains (given this.condition) x.now)) c.in-Some.is c.rule_alone.ensures.given in
     let still = ap (λ (t : TableValue). t.definitions.rules) c.loop-action.invariant.others in
-    rw (p.1, p.2) (c.in_err-define_demand.ensures.fault may r this there own has (subst (KnowsRules r c.args.numbers.now.rules) (sym still) knows))
+    rw (p.1, p.2) (c.in_err-define_demand.ensures.fault may r this there own has (subst (KnowsRules may r c.args.numbers.now.rules) (sym still) knows))

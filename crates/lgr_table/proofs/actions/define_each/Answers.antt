@@ -32,4 +32,4 @@ returns-in_err-define_action-clause-fault c = λ may r all has knows.
     let this = c.action-item.result in
     rw (p.1, p.2) (c.in_err-define_action.ensures.fault may r
     (subst (Contains r.actions.items) (sym c.action-item.is) (all c.loop-action.action-index this c.loop-action-test.true)) has
-    (subst (KnowsRules r c.args.numbers.now.rules) (sym c.loop-action.invariant.still) knows))
+    (subst (KnowsRules may r c.args.numbers.now.rules) (sym c.loop-action.invariant.still) knows))

@@ -50,4 +50,4 @@ returns-in_err-define_action-clause-fault c = λ may r all has knows.
     let still = ap (λ (t : TableValue). t.definitions.rules) c.loop-action.invariant.defined.others in
     rw (p.1, p.2) (c.in_err-define_action.ensures.fault may r
     (subst (Contains r.actions.items) (sym c.action-item.is) (all c.loop-action.action-index this c.loop-action-test.true)) has
-    (subst (KnowsRules r c.args.numbers.now.rules) (sym still) knows))
+    (subst (KnowsRules may r c.args.numbers.now.rules) (sym still) knows))

@@ -4,8 +4,7 @@ use Rattle.std.proofs.lemmas.Result.{err_from_is_err_and}
 use Rattle.lgr_text.specs.Records.{Entry, entry, file}
 use Rattle.lgr_text.specs.declared.records.Entry.{Entry as HeldEntry}
 use Rattle.lgr_table.specs.Faults.{IsFaultOfTable}
-use Rattle.lgr_table.specs.inner.FaultSteps.{HasEntriesOf, HasRulesOf}
-use Rattle.variant_table.specs.WellFormed.{IsTable}
+use Rattle.lgr_table.specs.inner.FaultSteps.{HasDefinitionsOf, HasEntriesOf}
 use Rattle.lgr_table.specs.Tables.{may_stand}
 use Rattle.lgr_table.specs.inner.EntrySteps.{AddsEntry}
 use Rattle.lgr_table.specs.inner.Steps.{AddsEntries}
@@ -52,12 +51,12 @@ returns-clause-added c =
     (take_all c.loop-entry.entry-index c.deref-entry-items.result.now c.loop-entry-test.false ∙ c.deref-entry-items.ensures.value) c.loop-entry.invariant
 
 pub returns-in_err-check_ranges-clause-fault : goal.returns-in_err-check_ranges-clause-fault
-returns-in_err-check_ranges-clause-fault c = λ spans rules is_table.
+returns-in_err-check_ranges-clause-fault c = λ spans defined.
     let p = err_from_is_err_and c.from_residual.result c.from_residual.ensures.1 in
     rw (p.1, p.2) (c.in_err-check_ranges.ensures (may_stand c.args.builder.now.definitions.properties) c.args.ruleset.now (sym c.deref.ensures.value) spans)
 
 pub returns-in_err-add_entry-clause-fault : goal.returns-in_err-add_entry-clause-fault
-returns-in_err-add_entry-clause-fault c = λ spans rules is_table.
+returns-in_err-add_entry-clause-fault c = λ spans defined.
     let p = err_from_is_err_and c.from_residual-in_err-add_entry.result c.from_residual-in_err-add_entry.ensures.1 in
     let t = c.args.builder.now in
     let u = c.loop-entry.builder in
@@ -69,7 +68,7 @@ returns-in_err-add_entry-clause-fault c = λ spans rules is_table.
     let same : u.definitions ≡ t.definitions = ap (λ (w : TableValue). w.definitions) c.loop-entry.invariant.others in
     let tells =
     subst (λ (d : Definitions). (before after : List HeldEntry) (w : TableValue) → r.entries.items ≡ before ++ this ∷ after
-    → HasEntriesOf (may_stand d.properties) n before w u → IsTable w → HasRulesOf r n.rules
+    → HasEntriesOf (may_stand d.properties) n before w u → HasDefinitionsOf (may_stand d.properties) r n w
     → IsFaultOfTable (may_stand d.properties) r c.in_err-add_entry.field-0.0) same (c.in_err-add_entry.ensures.fault r) in
     rw (p.1, p.2) (tells (take i xs) (drop (suc i) xs) t (sym c.deref-entry-items.ensures.value ∙ split-at xs i this c.loop-entry-test.true c.entry-item.is)
-    c.loop-entry.invariant.others is_table rules)
+    c.loop-entry.invariant.others defined)

@@ -12,13 +12,13 @@ returns-clause-added c =
     c.in_ok-add_sources.ensures.added c.in_ok-check_rules.ensures.among
 
 pub returns-in_err-check_rules-clause-fault : goal.returns-in_err-check_rules-clause-fault
-returns-in_err-check_rules-clause-fault c = λ r before after t all has is_table rules.
+returns-in_err-check_rules-clause-fault c = λ r before after t all has defined.
     let p = err_from_is_err_and c.from_residual.result c.from_residual.ensures.1 in
     let may = may_stand c.args.builder.now.definitions.properties in
-    rw (p.1, p.2) (c.in_err-check_rules.ensures.fault may r (stands-there r before after c.args.entry.now all) rules)
+    rw (p.1, p.2) (c.in_err-check_rules.ensures.fault may r (stands-there r before after c.args.entry.now all) defined.rules)
 
 pub returns-in_err-add_sources-clause-fault : goal.returns-in_err-add_sources-clause-fault
-returns-in_err-add_sources-clause-fault c = λ r before after t all has is_table rules.
+returns-in_err-add_sources-clause-fault c = λ r before after t all has defined.
     let p = err_from_is_err_and c.from_residual-in_err-add_sources.result c.from_residual-in_err-add_sources.ensures.1 in
     let may = may_stand c.args.builder.now.definitions.properties in
-    rw (p.1, p.2) (told-entry may r c.args.numbers.now before after c.args.entry.now t c.args.builder.now _ all has is_table c.in_err-add_sources.ensures.fault)
+    rw (p.1, p.2) (told-entry may r c.args.numbers.now before after c.args.entry.now t c.args.builder.now _ all has defined c.in_err-add_sources.ensures.fault)

@@ -25,4 +25,4 @@ returns-else-rule_number-rules-clause-fault c = λ may r among has.
     let count : length c.rules.result.now ≡ length rules = ap length c.rules.ensures in
     let none : length rules ≤ number_of rules asks.rule.name = omega (arith, number, count) in
     let here : Contains (given c.args.condition.now) asks = subst (λ o. Contains (given o) asks) (sym c.in-Some.is) (0, omega arith, refl) in
-    subst (IsFaultOfTable may r) (sym c.on.ensures) (asks-for-none r rules asks (among asks here) has none)
+    subst (IsFaultOfTable may r) (sym c.on.ensures) (asks-for-none may r rules asks (among asks here) has none)

@@ -1,22 +1,18 @@
 use Rattle.std.proofs.Common.{◌≡◌, ℕ, List, get_or, map, take, refl, sym, ap, subst, ◌∙◌}
-use Rattle.std.specs.Prelude.{◌↔◌, IsTrue}
 use Rattle.std.proofs.lemmas.List.{take_all}
 use Rattle.std.proofs.lemmas.Result.{err_from_is_err_and}
-use Rattle.idn_class.specs.declared.properties.Properties.{Properties}
-use Rattle.label_patterns.specs.Sets.{is_in}
 use Rattle.ruleset_text.specs.Definitions.{Definitions}
 use Rattle.lgr_text.specs.DefinitionOrder.{IsOrder, IsOrderFault}
 use Rattle.lgr_text.specs.Records.{definition, entry}
 use Rattle.lgr_text.specs.declared.records.Definition.{Definition as Held}
 use Rattle.lgr_text.specs.declared.records.Entry.{Entry as HeldEntry}
-use Rattle.lgr_text.specs.Meanings.{IsKept}
 use Rattle.lgr_table.specs.Tables.{may_stand}
 use Rattle.lgr_table.specs.inner.RuleSteps.{known_by}
 use Rattle.lgr_table.specs.inner.TableNames.{AreRuleNames}
 use Rattle.lgr_table.proofs.TableNameLemmas.{names-with}
 use Rattle.lgr_table.proofs.OtherRulesLemmas.{others-too}
 use Rattle.lgr_table.proofs.RuleLemmas.{adds-rules, all-rules}
-use Rattle.lgr_table.proofs.KnownLemmas.{comes-next, knows-all}
+use Rattle.lgr_table.proofs.KnownLemmas.{comes-next, kept-there, knows-all}
 use Rattle.lgr_table.proofs.StepLemmas.{meaning-formed, taken-step}
 use Rattle.lgr_table.proofs.TakenLemmas.{AreTaken}
 use Rattle.lgr_table.proofs.TakenOrderLemmas.{chosen, within}
@@ -63,12 +59,10 @@ returns c =
     (subst (λ (l : List Held). IsOrder l c.in-Ok.order.items) c.deref-3.ensures.value c.in-Ok.ensures.order) in
     let points = c.in_ok-points.points in
     let own = c.args.builder.now.definitions.properties in
-    let properties : c.properties-properties.result ≡ own =
-    c.properties-properties.ensures ∙ ap (λ (d : Definitions). d.properties) c.definitions.ensures in
-    let are : (n : ℕ) → IsTrue (is_in points n) ↔ IsKept (may_stand own) (map entry held.entries.items) n =
-    subst (λ (q : Properties). (n : ℕ) → IsTrue (is_in points n) ↔ IsKept (may_stand q) (map entry held.entries.items) n) properties
-    (subst (λ (l : List HeldEntry). (n : ℕ) → IsTrue (is_in points n) ↔ IsKept (may_stand c.properties-properties.result) (map entry l) n)
-    c.deref.ensures.value (c.in_ok-points.ensures {u = tt})) in
+    let are =
+    kept-there points c.properties-properties.result own _ held.entries.items
+    (c.properties-properties.ensures ∙ ap (λ (d : Definitions). d.properties) c.definitions.ensures) c.deref.ensures.value
+    (c.in_ok-points.ensures {u = tt}) in
     let u = c.loop-number.builder in
     let all : take c.loop-number.number-index order ≡ order = take_all c.loop-number.number-index order c.loop-number-test.false in
     let taken : AreTaken (map entry held.entries.items) points
@@ -85,17 +79,17 @@ returns c =
       added = adds-rules own held order points known c.args.builder.now u is are taken refl c.loop-number.invariant.others c.args.types.now
           (subst (λ n. AreRuleNames n c.loop-number.taken.rule_names.items u.definitions) names c.loop-number.invariant.called);
       all = all-rules own held order points known c.args.builder.now u is are taken refl c.loop-number.invariant.others;
-      known = (known, knows-all held order points known u.definitions.sets is taken c.loop-number.invariant.branches, refl, refl);
-      fault = λ may. tt;
+      known = (known, knows-all (may_stand own) held order points known u.definitions.sets are is taken c.loop-number.invariant.branches, refl, refl);
+      fault = tt;
     }
 
 pub returns-in-Err-clause-fault : goal.returns-in-Err-clause-fault
-returns-in-Err-clause-fault c = λ may.
-    c.of_order.ensures may c.args.«ruleset».now
+returns-in-Err-clause-fault c =
+    c.of_order.ensures (may_stand c.args.builder.now.definitions.properties) c.args.«ruleset».now
     (subst (λ (l : List Held). IsOrderFault l c.in-Err.error) c.deref-3.ensures.value c.in-Err.ensures.fault)
 
 pub returns-in_err-take-clause-fault : goal.returns-in_err-take-clause-fault
-returns-in_err-take-clause-fault c = λ may.
+returns-in_err-take-clause-fault c =
     let p = err_from_is_err_and c.from_residual-in_err-take.result c.from_residual-in_err-take.ensures.1 in
     let r = c.args.«ruleset».now in
     let raw = r.definitions.items in
@@ -103,6 +97,11 @@ returns-in_err-take-clause-fault c = λ may.
     let is : IsOrder raw order =
     subst (λ (l : List ℕ). IsOrder raw l) (sym c.deref-number-items.ensures.value)
     (subst (λ (l : List Held). IsOrder l c.in-Ok.order.items) c.deref-3.ensures.value c.in-Ok.ensures.order) in
+    let own = c.args.builder.now.definitions.properties in
+    let are =
+    kept-there c.in_ok-points.points c.properties-properties.result own _ r.entries.items
+    (c.properties-properties.ensures ∙ ap (λ (d : Definitions). d.properties) c.definitions.ensures) c.deref.ensures.value
+    (c.in_ok-points.ensures {u = tt}) in
     let i = c.loop-number.number-index in
     let d = c.index-definition.result.now in
     let entries = map entry c.deref-2.result.now in
@@ -112,5 +111,5 @@ returns-in_err-take-clause-fault c = λ may.
     let taken : AreTaken (map entry r.entries.items) points known sets (chosen (map definition raw) (take i order)) =
     subst (λ (l : List HeldEntry). AreTaken (map entry l) points known sets (chosen (map definition raw) (take i order))) c.deref-2.ensures.value
     c.loop-number.invariant.taken in
-    rw (p.1, p.2) (c.in_err-take.ensures.fault may r (get_or order i 0, within raw order i is c.loop-number-test.true, sym c.index-definition.ensures)
-    (comes-next r order i d points known sets is c.loop-number-test.true c.index-definition.ensures taken c.loop-number.invariant.branches))
+    rw (p.1, p.2) (c.in_err-take.ensures.fault (may_stand own) r (get_or order i 0, within raw order i is c.loop-number-test.true, sym c.index-definition.ensures)
+    (comes-next (may_stand own) r order i d points known sets are is c.loop-number-test.true c.index-definition.ensures taken c.loop-number.invariant.branches))

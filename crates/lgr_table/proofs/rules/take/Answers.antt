@@ -53,9 +53,9 @@ returns-in-Err-clause-fault c = λ may r among next.
     let all : map pattern c.rules-rules.result.now ≡ c.args.builder.now.definitions.rules =
     c.rules-rules.ensures.is ∙ ap (λ (d : Definitions). d.rules) c.definitions.ensures in
     let known = known_by entries points c.args.taken.now (map pattern c.rules-rules.result.now) in
-    let comes : ComesNext r c.args.definition.now known =
-    subst (λ (rules : List Pattern). ComesNext r c.args.definition.now (known_by entries points c.args.taken.now rules)) (sym all) next in
-    c.of_rule.ensures may r (told-class r c.args.definition.now known _ _ comes (ap meaning c.in-Class.is) c.in-Err.ensures.fault)
+    let comes : ComesNext may r c.args.definition.now known =
+    subst (λ (rules : List Pattern). ComesNext may r c.args.definition.now (known_by entries points c.args.taken.now rules)) (sym all) next in
+    c.of_rule.ensures may r (told-class may r c.args.definition.now known _ _ comes (ap meaning c.in-Class.is) c.in-Err.ensures.fault)
 
 pub returns-in-Err-pattern_of_rule-clause-fault : goal.returns-in-Err-pattern_of_rule-clause-fault
 returns-in-Err-pattern_of_rule-clause-fault c = λ may r among next.
@@ -63,9 +63,9 @@ returns-in-Err-pattern_of_rule-clause-fault c = λ may r among next.
     let same : found ≡ known_by (map entry c.args.repertoire.entries.now) c.args.repertoire.points.now c.args.taken.now c.args.builder.now.definitions.rules =
     c.known-known.ensures ∙ ap (λ (l : List Pattern). known_by (map entry c.args.repertoire.entries.now) c.args.repertoire.points.now c.args.taken.now l)
     (c.rules.ensures.is ∙ ap (λ (d : Definitions). d.rules) c.definitions-in-Rule.ensures) in
-    let comes : ComesNext r c.args.definition.now found = subst (ComesNext r c.args.definition.now) (sym same) next in
+    let comes : ComesNext may r c.args.definition.now found = subst (ComesNext may r c.args.definition.now) (sym same) next in
     c.of_rule-in-Err-pattern_of_rule.ensures may r
-    (told-rule r c.args.definition.now found c.args.made.now.atoms_left (part c.in-Rule.rule) _ among comes (ap meaning c.in-Rule.is)
+    (told-rule may r c.args.definition.now found c.args.made.now.atoms_left (part c.in-Rule.rule) _ among comes (ap meaning c.in-Rule.is)
     c.in-Err-pattern_of_rule.ensures.fault)
 
 pub returns-in_err-define_sets-in-Ok-pattern_of_rule-clause-fault : goal.returns-in_err-define_sets-in-Ok-pattern_of_rule-clause-fault

@@ -2,14 +2,14 @@ use Rattle.std.proofs.Common.{◌≡◌, ℕ, List, Option, ap, subst, sym, ◌�
 use Rattle.std.proofs.lemmas.Result.{err_from_is_err_and}
 use Rattle.lgr_text.specs.Records.{file}
 use Rattle.lgr_table.specs.Tables.{IsTableOf, may_stand}
-use Rattle.lgr_table.specs.inner.Steps.{AddsRules, AddsTypes}
+use Rattle.lgr_table.specs.inner.Steps.{AddsRules}
 use Rattle.variant_table.specs.WellFormed.{IsTable}
-use Rattle.lgr_table.proofs.TableLemmas.{is_table_of, names_still, no_actions, no_demands, no_entries, no_rules, no_types, rules_counted, types_counted}
+use Rattle.lgr_table.proofs.TableLemmas.{defines, is_table_of, names_still, no_actions, no_demands, no_entries, no_rules, no_types, rules_counted, types_counted}
 use Rattle.idn_class.specs.declared.properties.Properties.{Properties}
 use Rattle.lgr_table.specs.Entries.{needs_type}
 use Rattle.lgr_table.specs.Faults.{IsFaultOfTable}
 use Rattle.lgr_table.specs.Numbers.{types_of}
-use Rattle.lgr_table.specs.inner.FaultSteps.{HasRulesOf, KnowsRules}
+use Rattle.lgr_table.specs.inner.FaultSteps.{HasDefinitionsOf, HasRulesOf, KnowsRules}
 use Rattle.lgr_table.specs.inner.TypeSteps.{TellsTypes}
 use Rattle.lgr_table.proofs.FaultLemmas.{too-many-types}
 use Rattle.variant_table.specs.Entries.{TableValue}
@@ -55,22 +55,22 @@ add_entries-requires-clause-rules c =
 pub returns-clause-table : goal.returns-clause-table
 returns-clause-table c =
     let r = file c.args.ruleset.now in
-    let made = sym c.new-numbers.ensures in
-    let types = subst (λ n. AddsTypes (may_stand c.new-builder.result.definitions.properties) r n.types c.new-builder.result c.define_types.new.builder) made c.in_ok-types.ensures.added in
     let rules =
-    subst (λ n. AddsRules (may_stand c.define_types.new.builder.definitions.properties) r n.types n.rules c.define_types.new.builder c.define_rules.new.builder) made
-    (subst (λ (l : List (Option (List ℕ))). AddsRules (may_stand c.define_types.new.builder.definitions.properties) (file c.args.ruleset.now) l
-    c.in_ok-rules.rules.items c.define_types.new.builder c.define_rules.new.builder) c.deref.ensures.value c.in_ok-rules.ensures.added) in
+    subst (λ (l : List (Option (List ℕ))). AddsRules (may_stand c.define_types.new.builder.definitions.properties) r l c.in_ok-rules.rules.items
+    c.define_types.new.builder c.define_rules.new.builder) c.deref.ensures.value c.in_ok-rules.ensures.added in
     subst (IsTableOf c.args.properties r) (sym c.finish.ensures)
-    (is_table_of c.args.properties r c.new-numbers.result c.new-builder.result c.define_types.new.builder c.define_rules.new.builder c.define_actions.new.builder c.add_entries.new.builder
-    c.new-builder.ensures types rules c.in_ok-define_actions.ensures.added c.in_ok-add_entries.ensures.added
+    (is_table_of c.args.properties r c.in_ok-types.types.items c.in_ok-rules.rules.items c.new-numbers.result c.new-builder.result
+    c.define_types.new.builder c.define_rules.new.builder c.define_actions.new.builder c.new-numbers.ensures c.new-builder.ensures
+    c.in_ok-types.ensures.added rules c.in_ok-define_actions.ensures.added c.add_entries.new.builder c.in_ok-add_entries.ensures.added
     (subst IsTable c.builder-4.view_is c.builder-4.invariant.table))
 
 pub returns-in_err-define_actions-clause-fault : goal.returns-in_err-define_actions-clause-fault
 returns-in_err-define_actions-clause-fault c =
     let p = err_from_is_err_and c.from_residual-in_err-define_actions.result c.from_residual-in_err-define_actions.ensures.1 in
+    let own : c.define_types.new.builder.definitions.properties ≡ c.args.properties =
+    ap (λ (t : TableValue). t.definitions.properties) c.in_ok-types.ensures.added.others ∙ ap (λ (t : TableValue). t.definitions.properties) c.new-builder.ensures in
     rw (p.1, p.2) (c.in_err-define_actions.ensures.fault (may_stand c.args.properties) (subst (λ n. HasRulesOf c.args.ruleset.now n.rules) (sym c.new-numbers.ensures) c.in_ok-rules.ensures.all)
-    (subst (λ n. KnowsRules c.args.ruleset.now n.rules c.define_rules.new.builder.definitions.rules) (sym c.new-numbers.ensures) c.in_ok-rules.ensures.known))
+    (subst (λ n. KnowsRules (may_stand c.args.properties) c.args.ruleset.now n.rules c.define_rules.new.builder.definitions.rules) (sym c.new-numbers.ensures) (subst (λ (q : Properties). KnowsRules (may_stand q) c.args.ruleset.now c.in_ok-rules.rules.items c.define_rules.new.builder.definitions.rules) own c.in_ok-rules.ensures.known)))
 
 pub returns-in_err-types-clause-fault : goal.returns-in_err-types-clause-fault
 returns-in_err-types-clause-fault c =
@@ -84,7 +84,9 @@ returns-in_err-types-clause-fault c =
 pub returns-in_err-rules-clause-fault : goal.returns-in_err-rules-clause-fault
 returns-in_err-rules-clause-fault c =
     let p = err_from_is_err_and c.from_residual-in_err-rules.result c.from_residual-in_err-rules.ensures.1 in
-    rw (p.1, p.2) (c.in_err-rules.ensures.fault (may_stand c.args.properties))
+    let own : c.define_types.new.builder.definitions.properties ≡ c.args.properties =
+    ap (λ (t : TableValue). t.definitions.properties) c.in_ok-types.ensures.added.others ∙ ap (λ (t : TableValue). t.definitions.properties) c.new-builder.ensures in
+    rw (p.1, p.2) (subst (λ (q : Properties). IsFaultOfTable (may_stand q) c.args.ruleset.now c.in_err-rules.field-0.0) own c.in_err-rules.ensures.fault)
 
 pub returns-in_err-add_entries-clause-fault : goal.returns-in_err-add_entries-clause-fault
 returns-in_err-add_entries-clause-fault c =
@@ -94,6 +96,19 @@ returns-in_err-add_entries-clause-fault c =
     ∙ ap (λ (t : TableValue). t.definitions.properties) c.in_ok-rules.ensures.added.others
     ∙ ap (λ (t : TableValue). t.definitions.properties) c.in_ok-types.ensures.added.others
     ∙ ap (λ (t : TableValue). t.definitions.properties) c.new-builder.ensures in
-    rw (p.1, p.2) (subst (λ (q : Properties). IsFaultOfTable (may_stand q) c.args.ruleset.now c.in_err-add_entries.field-0.0) own
-    (c.in_err-add_entries.ensures.fault c.requires.entries (subst (λ n. HasRulesOf c.args.ruleset.now n.rules) (sym c.new-numbers.ensures) c.in_ok-rules.ensures.all)
-    (subst IsTable c.builder-3.view_is c.builder-3.invariant.table)))
+    let r = c.args.ruleset.now in
+    let n = c.new-numbers.result in
+    let t = c.define_actions.new.builder in
+    let rules =
+    subst (λ (l : List (Option (List ℕ))). AddsRules (may_stand c.define_types.new.builder.definitions.properties) (file r) l c.in_ok-rules.rules.items
+    c.define_types.new.builder c.define_rules.new.builder) c.deref.ensures.value c.in_ok-rules.ensures.added in
+    let defined : HasDefinitionsOf (may_stand c.args.properties) r n t =
+    record {
+      is_table = subst IsTable c.builder-3.view_is c.builder-3.invariant.table;
+      defines = defines c.args.properties (file r) c.in_ok-types.types.items c.in_ok-rules.rules.items n c.new-builder.result
+          c.define_types.new.builder c.define_rules.new.builder t c.new-numbers.ensures c.new-builder.ensures
+          c.in_ok-types.ensures.added rules c.in_ok-define_actions.ensures.added;
+      rules = subst (λ k. HasRulesOf r k.rules) (sym c.new-numbers.ensures) c.in_ok-rules.ensures.all;
+    } in
+    rw (p.1, p.2) (subst (λ (q : Properties). HasDefinitionsOf (may_stand q) r n t → IsFaultOfTable (may_stand q) r c.in_err-add_entries.field-0.0) own
+    (c.in_err-add_entries.ensures.fault c.requires.entries) defined)

@@ -2,8 +2,8 @@ use Rattle.std.proofs.Common.{◌≡◌, ℕ, ◌+◌, true, false, refl, sym, a
 use Rattle.std.specs.declared.alloc.Global
 use Rattle.std.specs.declared.boxed.Box
 use Rattle.lgr_text.specs.Known.{known as known_of, Known}
-use Rattle.lgr_text.specs.PartAtoms.{anchored_atoms, branch_atoms, part_atoms}
-use Rattle.lgr_text.specs.PartMatches.{has_anchor, rule_named}
+use Rattle.lgr_text.specs.PartAtoms.{anchored_atoms, part_atoms}
+use Rattle.lgr_text.specs.PartMatches.{has_anchor}
 use Rattle.lgr_text.specs.Records.{part as part_of, OfRule, Then, Choice}
 use Rattle.lgr_text.specs.declared.records.PartTree.{PartTree}
 use Rattle.lgr_text.specs.declared.records.PartTree.TheVariants as tree

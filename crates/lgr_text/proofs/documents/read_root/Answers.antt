@@ -2,7 +2,6 @@ use Rattle.std.proofs.Common.{◌≡◌, Ok, Option, sym, ap, subst}
 use Rattle.std.proofs.lemmas.Result.{err_from_is_err_and}
 use Rattle.lgr_text.specs.declared.element.Element as held
 use Rattle.lgr_text.specs.Elements
-use Rattle.lgr_text.specs.Elements.{Content}
 use Rattle.lgr_text.specs.Records.{Ruleset, file}
 use Rattle.lgr_text.specs.inner.Reading.{IsFirst, NextIs, Reads, after_blanks}
 use Rattle.lgr_text.specs.inner.Roots.{root_of}

@@ -7,7 +7,7 @@ use Rattle.label_patterns.specs.Sets.{is_in, Rise}
 use Rattle.label_patterns.specs.Trees.{pattern}
 use Rattle.lgr_text.specs.Known.{known as known_of}
 use Rattle.lgr_text.specs.Records.{class as class_of}
-use Rattle.lgr_text.specs.inner.Items.{is_member, AddsChoice, HasShape}
+use Rattle.lgr_text.specs.inner.Items.{is_member, HasShape}
 use Rattle.lgr_text.proofs.SetChoiceLemmas.{atom-chosen, atom-shape}
 use Rattle.lgr_text.proofs.part_items.push_class.Goals as goal
 

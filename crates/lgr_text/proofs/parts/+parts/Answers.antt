@@ -8,7 +8,7 @@ use Rattle.lgr_text.specs.declared.rule_elements.RuleElement.{RuleElement}
 use Rattle.lgr_text.specs.Attributes.{are_among}
 use Rattle.lgr_text.specs.Classes.{class_of}
 use Rattle.lgr_text.specs.Elements
-use Rattle.lgr_text.specs.Elements.{Node, each_element, if_among, if_plain}
+use Rattle.lgr_text.specs.Elements.{each_element, if_among, if_plain}
 use Rattle.lgr_text.specs.Orders.{Item, in_order, item}
 use Rattle.lgr_text.specs.Parts.{holder_names, item_of, order_in, part_as, part_of, plain_names, plain_part}
 use Rattle.lgr_text.specs.Records as records

@@ -1,4 +1,4 @@
-use Rattle.std.proofs.Common.{◌∙◌, ap, sym, true, false}
+use Rattle.std.proofs.Common.{◌∙◌, ap, sym}
 use Rattle.idn2_options.specs.Settings.{Settings}
 use Rattle.idn2_output.proofs.WrittenOutputLines.{writes_nothing}
 use Rattle.idn2_cli.proofs.CollisionSteps.{ending-named, ending-none, ending-plain}

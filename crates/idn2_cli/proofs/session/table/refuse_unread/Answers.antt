@@ -1,6 +1,4 @@
-use Rattle.std.proofs.Common.{subst, ap, ◌∙◌}
-use Rattle.lgr_table.specs.Texts as xml
-use Rattle.lgr_table.specs.declared.fault.TableError.{TableError}
+use Rattle.std.proofs.Common.{subst}
 use Rattle.idn2_cli.specs.inner.UnreadTables.{IsUnreadAs}
 use Rattle.idn2_cli.specs.declared.session.table.Unread.{Unread}
 use Rattle.idn2_cli.specs.declared.session.table.Unread.TheVariants.{Lines, Ruleset}

@@ -1,4 +1,4 @@
-use Rattle.std.proofs.Common.{refl, sym, subst}
+use Rattle.std.proofs.Common.{sym, subst}
 use Rattle.std.specs.Prelude.{Option}
 use Rattle.valid_labels.specs.Testing.{Testing}
 use Rattle.idn2_cli.specs.declared.modes.listed.Listed.{Listed}

@@ -1,7 +1,7 @@
-use Rattle.std.proofs.Common.{◌≡◌, ap, sym, subst, ◌∙◌, refl, true, false}
+use Rattle.std.proofs.Common.{◌≡◌, ap, sym, subst, ◌∙◌, true, false}
 use Rattle.valid_labels.specs.Testing.{IsAdmission}
 use Rattle.idn2_cli.specs.inner.Ruling.{passes}
-use Rattle.idn2_cli.proofs.DecisionLemmas.{not_admitted, others-kept, others-ruling}
+use Rattle.idn2_cli.proofs.DecisionLemmas.{not_admitted, others-ruling}
 use Rattle.idn2_cli.proofs.modes.decided.Decisions.standing_of.Goals as goal
 
 pub admission_by-requires-clause-ruling : goal.admission_by-requires-clause-ruling
