@@ -41,7 +41,7 @@ fn bytes_of(alloc: Global, digits: &[u8]) -> Result<Vec<u8>, std::alloc::AllocEr
         match high {
             None => high = Some(value),
             Some(first) => {
-                bytes.push(first * 16 + value)?;
+                bytes.push((first << 4) | value)?;
                 high = None;
             }
         }
