@@ -3,7 +3,7 @@ why a table refuses a label, which the same process tells."""
 
 import json
 import re
-from collections.abc import Iterator, Sequence
+from collections.abc import Sequence
 from typing import NamedTuple
 
 from .answers import NOT_MADE, NOT_VALID, Object, Refusal
@@ -45,15 +45,14 @@ class Span(NamedTuple):
         """Whether a text from its start on is in it."""
         return self.end is None or text < self.end
 
-    def parts(self, label: str) -> Iterator["Span"]:
-        """Parts of it, of which each has all its texts that begin as a label up to one place, and no further."""
-        start = self.start
-        for place in range(len(label) - 1, 0, -1):
+    def parts(self, label: str) -> list["Span"]:
+        """It alone; or in two, if a place of a label cuts it: the texts that begin as the label up to the first such place, and
+        the rest. More parts would take fewer turns, but most of them are asked about in vain."""
+        for place in range(1, len(label)):
             cut = label[:place] + LAST
-            if start < cut and self.has(cut):
-                yield Span(start, cut)
-                start = cut
-        yield Span(start, self.end)
+            if self.start < cut and self.has(cut):
+                return [Span(self.start, cut), Span(cut, self.end)]
+        return [self]
 
 
 def first_spans(label: str) -> list[Span]:
