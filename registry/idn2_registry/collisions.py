@@ -55,11 +55,6 @@ class Span(NamedTuple):
         return [self]
 
 
-def first_spans(label: str) -> list[Span]:
-    """With which a search begins: what is near a label lies mostly on both sides of it."""
-    return [Span("", label), Span(label)]
-
-
 def refusal_in(told: Sequence[Object]) -> Refusal | None:
     """Why a table refuses a label that may be registered; None if it admits it."""
     answer = only(told, "ulabel")
@@ -82,29 +77,30 @@ class Collisions:
         """The registered labels that collide with a label, in label order, each with its holder; itself among them.
         Raises Unknown if the table refuses the label."""
         found: list[Row] = []
-        spans, turn = first_spans(label), 0
+        # What is near lies mostly on both sides of the label. From it on the register is asked first, since it is near itself.
+        asked, turn = [*await self._near_in_each(label, [Span("", label)], questions), (Span(label), None)], 0
         # The program and the register take turns: each goes on from what the other has, in all spans at once.
-        while asked := await self._first_in_each(label, spans, questions):
-            rows = await transaction.first_from_each([near.label for _, near in asked])
-            spans, turn = [], turn + 1
-            for (span, near), row in zip(asked, rows, strict=True):
+        while asked:
+            texts = [near.label if near else span.start for span, near in asked]
+            rows = await transaction.first_from_each(texts)
+            turn += 1
+            spans: list[Span] = []
+            for (span, near), text, row in zip(asked, texts, rows, strict=True):
                 if row is None or not span.has(row[0]):
                     continue
-                is_there = row[0] == near.label
-                if is_there and near.collides:
-                    found.append(row)
-                # The least text above it, or the next that is registered.
-                left = Span(near.label + "\0" if is_there else row[0], span.end)
+                start = row[0]
+                if near and near.label == start:
+                    found += [row] if near.collides else []
+                    # The least text above it.
+                    start += "\0"
+                left = Span(start, span.end)
                 # Most searches end before that, and what is asked of each part would be asked in vain.
-                spans += left.parts(near.label) if turn > WHOLE_TURNS and len(spans) < MOST_SPANS else [left]
+                spans += left.parts(text) if turn > WHOLE_TURNS and len(spans) < MOST_SPANS else [left]
+            asked = await self._near_in_each(label, spans, questions)
         return sorted(found)
 
-    def asked_first(self, label: str) -> list[Asked]:
-        """What a search is asked first, so that it can be asked with something else in one turn."""
-        return self._asked(label, first_spans(label))
-
     def asked_of(self, label: str) -> Asked:
-        """What is asked to know whether the table refuses a label."""
+        """What is asked to know whether the table refuses a label; and first in a search for what it collides with."""
         return self._jump, label.encode()
 
     def asked_between(self, label: str, registered: str) -> Asked:
@@ -119,7 +115,8 @@ class Collisions:
     def _asked(self, label: str, spans: Sequence[Span]) -> list[Asked]:
         return [(self._jump, (f"{label}\t{span.start}" if span.start else label).encode()) for span in spans]
 
-    async def _first_in_each(self, label: str, spans: Sequence[Span], questions: Questions) -> list[tuple[Span, Near]]:
+    async def _near_in_each(self, label: str, spans: Sequence[Span],
+                            questions: Questions) -> list[tuple[Span, Near | None]]:
         """The first label that may collide in each of some spans, where there is one."""
         told = await questions.ask_all(self._asked(label, spans))
         found = ((span, self._near(only(objects, "ulabel"), span.start)) for span, objects in zip(spans, told, strict=True))

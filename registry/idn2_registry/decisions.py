@@ -54,7 +54,7 @@ class Tables:
         if "refusal" in told:
             return Answer(label, Status.REFUSED, refusal=Refusal.read(told["refusal"]))
         ulabel = told["ulabel"]
-        refusals = await self.refusals(ulabel, questions, self.collisions.asked_first(ulabel) if is_searched else ())
+        refusals = await self.refusals(ulabel, questions, [self.collisions.asked_of(ulabel)] if is_searched else ())
         tables = tuple(name for name in self.admitting if name not in refusals)
         refusal = None if tables else next(iter(refusals.values()))
         status = Status.REFUSED if refusal else Status.ADMITTED

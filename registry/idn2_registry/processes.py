@@ -291,6 +291,6 @@ def busy(seconds: float) -> Unknown:
 
 def only(objects: Sequence[Object], *members: str) -> Object:
     """The one object of an answer, which has one of the members or a refusal."""
-    if len(objects) != 1 or not any(member in objects[0] for member in (*members, "refusal")):
+    if len(objects) != 1 or objects[0].keys().isdisjoint((*members, "refusal")):
         raise Unknown(f"the program gave another answer than it should: {objects[-1]}")
     return objects[0]

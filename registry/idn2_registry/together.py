@@ -12,7 +12,7 @@ Told = TypeVar("Told")
 Result = TypeVar("Result")
 
 
-@dataclass(frozen=True)
+@dataclass(slots=True)
 class Ask(Generic[Given, Told]):
     """What is asked of a teller in one turn. It is asked several at once, and gives for each, in their order, what it tells or
     what went wrong."""
@@ -44,13 +44,19 @@ def together(requests: Iterable[Request[Result]]) -> Iterator[tuple[int, Result 
                 yield number, fault
         due = []
         for teller, each in asked.items():
-            tells = iter(teller([one for *_, given in each for one in given]))
-            due += [(number, request, all_told([next(tells) for _ in given])) for number, request, given in each]
+            tells = teller([one for _, _, given in each for one in given])
+            start = 0
+            for number, request, given in each:
+                start, before = start + len(given), start
+                due.append((number, request, all_told(tells[before:start])))
 
 
-def all_told(told: list[Any]) -> list[Any] | Fault:
+def all_told(told: Sequence[Any]) -> Sequence[Any] | Fault:
     """What was told of all that a request asked; else the first fault."""
-    return next((one for one in told if isinstance(one, Fault)), told)
+    for one in told:
+        if isinstance(one, Fault):
+            return one
+    return told
 
 
 def alone(request: Request[Result]) -> Result:
