@@ -77,18 +77,23 @@ class Collisions:
         """The registered labels that collide with a label, in label order, each with its holder; itself among them.
         Raises Unknown if the table refuses the label."""
         found: list[Row] = []
+        # The first row at or after each text that was asked for.
+        known: dict[str, Row | None] = {}
         # What is near lies mostly on both sides of the label. From it on the register is asked first, since it is near itself.
         asked, turn = [*await self._near_in_each(label, [Span("", label)], questions), (Span(label), None)], 0
         # The program and the register take turns: each goes on from what the other has, in all spans at once.
         while asked:
             texts = [near.label if near else span.start for span, near in asked]
-            rows = await transaction.first_from_each(texts)
+            new = [text for text in texts if text not in known]
+            known.update(zip(new, await transaction.first_from_each(new), strict=True))
             turn += 1
             spans: list[Span] = []
-            for (span, near), text, row in zip(asked, texts, rows, strict=True):
+            for (span, near), text in zip(asked, texts, strict=True):
+                row = known[text]
                 if row is None or not span.has(row[0]):
                     continue
                 start = row[0]
+                known[start] = row
                 if near and near.label == start:
                     found += [row] if near.collides else []
                     # The least text above it.
