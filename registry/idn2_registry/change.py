@@ -92,7 +92,8 @@ def changed_table(configuration: Configuration, words: str, program: Program) ->
     """The new table of NAME=FILE."""
     name, is_given, path = words.partition("=")
     if name not in configuration.tables or not is_given:
-        raise Unusable(f"{words}: no NAME=FILE: name one of {', '.join(configuration.tables)}")
+        told = "no name of [tables]" if is_given else "no NAME=FILE"
+        raise Unusable(f"{words}: {told}: name one of {', '.join(configuration.tables)}")
     return read_table(name, Path(path), program)
 
 

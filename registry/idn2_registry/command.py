@@ -12,7 +12,7 @@ from .answers import Answer, ExitStatus
 from .audit import audit as audit_all
 from .change import change as change_all
 from .co_process import CoProcess
-from .configuration import DEFAULT_PATH, Configuration, read_configuration
+from .configuration import DEFAULT_PATH, Configuration, Use, read_configuration
 from .faults import Fault, Unsayable, Unusable
 from .form import Form
 from .holdings import Holdings
@@ -181,8 +181,8 @@ def change(words: Words, output: Output) -> None:
 
 
 def found_configuration(words: Words) -> Configuration | None:
-    """The configuration, for a job that does without one."""
-    return read_configuration(words.config) if os.path.exists(words.config) else None
+    """The configuration, for a job on tables, which does without one."""
+    return read_configuration(words.config, Use.TABLES) if os.path.exists(words.config) else None
 
 
 def named_tables(words: Words, names: Sequence[str]) -> tuple[list[Table], Program]:

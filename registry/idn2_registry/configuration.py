@@ -86,6 +86,14 @@ class TomlFile:
         return head or len(self.lines)
 
 
+class Use(Enum):
+    """What a configuration is read for: answers about labels, which need a table of the zone; or jobs on tables alone, of which
+    one makes that table."""
+
+    LABELS = "labels"
+    TABLES = "tables"
+
+
 @dataclass(frozen=True)
 class Configuration:
     """A zone: its register, its tables by their names in the order of the file, and under which of them labels collide."""
@@ -113,9 +121,9 @@ class Configuration:
         return others or (self.zone,)
 
 
-def read_configuration(path: str | os.PathLike[str] = DEFAULT_PATH) -> Configuration:
+def read_configuration(path: str | os.PathLike[str] = DEFAULT_PATH, use: Use = Use.LABELS) -> Configuration:
     """The configuration in a file. Raises Unusable with the file, the line and the remedy."""
-    return Reader(Path(path)).configuration()
+    return Reader(Path(path), use).configuration()
 
 
 def read_token(configuration: Configuration) -> bytes | None:
@@ -138,8 +146,9 @@ def read_token(configuration: Configuration) -> bytes | None:
 class Reader(TomlFile):
     """Reads one file."""
 
-    def __init__(self, path: Path) -> None:
+    def __init__(self, path: Path, use: Use = Use.LABELS) -> None:
         super().__init__(path)
+        self.use = use
         try:
             self.values: dict[str, Any] = tomllib.loads(self.text)
         except tomllib.TOMLDecodeError as error:
@@ -191,12 +200,15 @@ class Reader(TomlFile):
 
     def zone(self, tables: dict[str, Path]) -> str:
         """The name of the table of the zone."""
-        if "zone" not in self.values and len(tables) == 1:
+        if "zone" not in self.values and (len(tables) == 1 or self.use is Use.TABLES):
             return next(iter(tables))
         zone = self.values.get("zone")
-        if not isinstance(zone, str) or zone not in tables:
-            raise self.fault("zone", f"no name of [tables]: write one of {', '.join(tables)}")
-        return zone
+        if isinstance(zone, str) and zone in tables:
+            return zone
+        remedy = "leave it out" if len(tables) == 1 else f"""idn2-registry join {' '.join(tables)} > zone.txt makes a table of \
+them; then write zone = "zone", and below [tables] zone = "zone.txt\""""
+        told = "no name of [tables]" if "zone" in self.values else "missing, since there are several tables"
+        raise self.fault("zone", f"{told}: {remedy}", "" if "zone" in self.values else "tables")
 
     def limits(self) -> Limits:
         """The limits, each within what the program takes."""

@@ -79,10 +79,10 @@ class Loading:
         if label is None or refusal is not None:
             self.refused.append((number, refusal or {"text": "no label"}))
             return
-        for known in (self.there, self.new):
+        for known, words in ((self.there, "registered for another holder"), (self.new, "another holder than on a line above")):
             if label in known:
                 if known[label] != holder:
-                    self.refused.append((number, {"text": "registered for another holder"}))
+                    self.refused.append((number, {"text": words}))
                 else:
                     self.known += 1
                 return

@@ -24,7 +24,12 @@ TYPES: dict[str, type] = {"holder": str, "variants": bool, "table": str, "page":
 def told_in(text: bytes) -> Any:
     """What a text of JSON says. Raises ValueError or RecursionError for what is none. It is UTF-8 alone, by which every reader
     has the same text (RFC 8259, section 8.1)."""
-    return json.loads(text.decode("utf-8-sig"), object_pairs_hook=object_of)
+    try:
+        return json.loads(text.decode("utf-8-sig"), object_pairs_hook=object_of)
+    except UnicodeDecodeError as error:
+        raise ValueError(f"not UTF-8 at byte {error.start + 1}") from error
+    except json.JSONDecodeError as error:
+        raise ValueError(f"no JSON at character {error.pos + 1}") from error
 
 
 def object_of(members: list[tuple[str, Any]]) -> Object:

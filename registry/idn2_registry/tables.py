@@ -102,7 +102,8 @@ class Faulty(Unusable):
     """The program refuses a table, by a line and a reason."""
 
     def __init__(self, table: Table, line: int | None, reason: str) -> None:
-        super().__init__(f"{table.path}: line {line}: {reason}: mend it (docs/NOTATION.md)")
+        standard = "RFC 7940" if table.is_in_xml else "docs/NOTATION.md"
+        super().__init__(f"{table.path}: line {line}: {reason}: mend it ({standard})")
         self.line, self.reason = line, reason
 
 

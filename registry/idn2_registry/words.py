@@ -4,10 +4,11 @@ from .answers import Answer, RegisteredLabel, Status
 
 
 def shown(text: str) -> str:
-    """A text as a terminal may show it: what isn't printable is escaped."""
+    """A text as a terminal may show it: what isn't printable is escaped, and so is each byte that is no UTF-8."""
     if text.isprintable():
         return text
-    return "".join(each if each.isprintable() else ascii(each)[1:-1] for each in text)
+    # Such a byte stands in the text as a surrogate that ends as it.
+    return "".join(each if each.isprintable() else ascii(each)[1:-1].replace("\\udc", "\\x") for each in text)
 
 
 def counted(number: int, one: str, several: str | None = None) -> str:

@@ -64,6 +64,7 @@ def test_answers_the_lines_of_its_input_in_their_order(place: Place) -> None:
     assert [each["status"] for each in told] == ["available", "refused", "refused", "available", "refused", "refused"]
     assert [each.get("refusal", {}).get("number") for each in told] == [None, 3, None, None, 10, 1]
     assert told[5]["label_hex"] == "6661DF" and "label" not in told[5] and done.returncode == 1
+    place.expect(["check", "fa\udcdf"], "fa\\xdf: refused: 1 not UTF-8\n", 1)
 
 
 def test_refuses_each_control_character(place: Place) -> None:

@@ -26,8 +26,9 @@ ROWS = (
     ('register = "sqlite:r"\n', "line 1: tables: no table"),
     ('register = "sqlite:r"\n[tables]\n\nde = 5\n', "line 4: de: not a path"),
     ('register = "sqlite:r"\ntables = 5\n', "line 2: tables: not a section"),
-    (f"zone = 'en'\n{HEAD}", "line 1: zone: no name of [tables]: write one of de"),
-    (f'{HEAD}en = "english.txt"\n', "line 4: zone: no name of [tables]: write one of de, en"),
+    (f"zone = 'en'\n{HEAD}", "line 1: zone: no name of [tables]: leave it out"),
+    (f'{HEAD}en = "e.txt"\n', "line 2: zone: missing, since there are several tables: idn2-registry join de en > zone.txt"),
+    (f'zone = "zone"\n{HEAD}en = "e.txt"\n', "line 1: zone: no name of [tables]: idn2-registry join de en > zone.txt"),
     (f"{HEAD}[limits]\ntrys = 5\n", "line 5: trys: no limit has this name"),
     (f"{HEAD}[limits]\ntries = 0\n", "line 5: tries: write a number from 1 to 1000000000"),
     (f"{HEAD}[limits]\nsteps = 1\n", "line 5: steps: write a number from 2 to"),
@@ -50,6 +51,16 @@ def test_names_file_line_and_remedy(bare: Place, text: str, told: str) -> None:
     done = bare.run("check", "haus")
     [line] = done.stderr.decode().splitlines()
     assert line.startswith(f"idn2-registry: registry.toml: {told}") and (done.stdout, done.returncode) == (b"", 75), line
+
+
+def test_joins_tables_before_there_is_one_of_the_zone(bare: Place) -> None:
+    bare.write("registry.toml", f'{HEAD}en = "{GERMAN}"\n')
+    done = bare.run("join", "de", "en")
+    assert done.stdout.startswith(b"%version 2\n") and done.returncode == 0, done
+    bare.write("zone.txt", done.stdout)
+    bare.write("registry.toml", f'zone = "zone"\n{HEAD}en = "{GERMAN}"\nzone = "zone.txt"\n')
+    bare.load("haus")
+    bare.expect(["check", "haus"], "haus: taken by haus\n", 1)
 
 
 def test_names_the_line_of_what_is_no_uri(bare: Place) -> None:

@@ -194,6 +194,11 @@ def test_change_says_what_is_not_known(bare: Place) -> None:
     assert done.returncode == 75 and b"ssssssss: not known" in done.stdout, done
 
 
+def test_change_wants_a_name_and_a_file(place: Place) -> None:
+    place.expect(["change", "de"], "", 75, "de: no NAME=FILE: name one of de")
+    place.expect(["change", "en=new.txt"], "", 75, "en=new.txt: no name of [tables]: name one of de")
+
+
 def test_change_wants_a_table_of_the_zone(place: Place) -> None:
     for words in ("german.txt", "en=german.txt", "de=missing.txt"):
         done = place.run("change", words)

@@ -190,6 +190,8 @@ def test_co_process_answers_each_request(place: Place) -> None:
     assert [each.get("status") for each in told[:6]] == ["taken", "registered", "released", "listed", "refused", "refused"]
     assert [each.get("id") for each in told[:3]] == [1, "two", None]
     assert all(each.keys() == {"fault"} for each in (*told[6:14], *told[15:])), told
+    faults = ["no JSON at character 3", "no JSON at character 2", "not UTF-8 at byte 1"]
+    assert [each["fault"] for each in told[15:18]] == faults, told
     place.expect(["dump"], "strasse\tH2\n", 0)
     assert told[14] == {"id": 3, "label_hex": "80", "status": "refused",
                         "refusal": {"number": 1, "text": "not UTF-8", "byte": 1}}

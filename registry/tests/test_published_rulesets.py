@@ -106,7 +106,7 @@ def test_names_the_line_of_a_faulty_ruleset(bare: Place, old: str, new: str, lin
     bare.write("latin.xml", PUBLISHED.replace(old, new))
     bare.configure(latin="latin.xml")
     done = bare.run("check-config")
-    assert f"latin.xml: line {line}: {told}: mend it (docs/NOTATION.md)\n" in done.stdout.decode(), done
+    assert f"latin.xml: line {line}: {told}: mend it (RFC 7940)\n" in done.stdout.decode(), done
     bare.expect(["variants", "haus"], "", 75, f"latin.xml: line {line}: {told}")
 
 

@@ -115,19 +115,20 @@ def test_what_is_told_is_done(kind: Place) -> None:
 
 def test_loads_whole_or_not_at_all(kind: Place) -> None:
     kind.load("haus\tH1")
-    kind.write("labels.txt", "xn--strae-oqa\r\n\nmaus\tH2\nMaus\nhaus\tH2\nhaus\tH1\nma\x01s\nmaus\tH2\nfa\udcff\n".encode(
+    kind.write("labels.txt", "xn--strae-oqa\r\n\nmaus\tH2\nMaus\nhaus\tH2\nhaus\tH1\nma\x01s\nmaus\tH3\nfa\udcff\n".encode(
         "utf-8", "surrogateescape"))
     told = ["labels.txt: line 2: 3 empty", "labels.txt: line 4: 10 disallowed code point: U+004D at place 1 (RFC 5892 2.2)",
             "labels.txt: line 7: control character: U+0001 at place 3", "labels.txt: line 9: 1 not UTF-8",
-            "labels.txt: line 5: registered for another holder"]
+            "labels.txt: line 5: registered for another holder",
+            "labels.txt: line 8: another holder than on a line above"]
     done = kind.run("load", "labels.txt")
     lines = done.stdout.decode().splitlines()
     assert sorted(lines[:-1]) == sorted(told), done
-    assert (lines[-1], done.returncode) == ("9 lines, 0 loaded, 5 refused, 2 known already", 1), done
+    assert (lines[-1], done.returncode) == ("9 lines, 0 loaded, 6 refused, 1 known already", 1), done
     kind.expect(["dump"], "haus\tH1\n", 0)
     done = kind.run("load", "--rest", "labels.txt")
     last = done.stdout.decode().splitlines()[-1]
-    assert (last, done.returncode) == ("9 lines, 2 loaded, 5 refused, 2 known already", 1), done
+    assert (last, done.returncode) == ("9 lines, 2 loaded, 6 refused, 1 known already", 1), done
     kind.expect(["dump"], "haus\tH1\nmaus\tH2\nstraße\n", 0)
     rows = [json.loads(line) for line in kind.run("dump", "--json").stdout.splitlines()]
     assert rows[2] == {"ulabel": "straße", "alabel": "xn--strae-oqa", "holder": None}
