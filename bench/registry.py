@@ -2,8 +2,8 @@
 """Times idn2-registry with a register of labels of each of some tables: python3 bench/registry.py
 
     check       one label after the other, each near a registered one, against all registered ones, by the clock: in
-                milliseconds the middle of all, and the slowest; and the slowest of those that nothing else kept from a
-                processor, since the clock counts that, too
+                milliseconds the middle of all, and the slowest; and, of the hundred slowest, the one that is the slowest again,
+                by the least of three times: a costly label takes its time each time, what else the machine does doesn't
     audit       of all of them: how often it takes the processor time of the run of the program alone that it stands on,
                 which is --among with --others; each the least of some rounds
 
@@ -13,7 +13,7 @@ installed, a database of PostgreSQL.
 """
 
 import gc
-import math
+import heapq
 import os
 import pathlib
 import resource
@@ -24,7 +24,7 @@ import time
 
 import registered
 from bench import HERE
-from runs import Failed, before_others, children, lost, lost_since, measured, words_of
+from runs import Failed, before_others, measured, words_of
 
 sys.path += [str(HERE.parent / folder) for folder in ("registry", "tests")]
 
@@ -33,6 +33,8 @@ from program import python_with
 
 CHECK_WANTED, WORST_WANTED, AUDIT_WANTED = 2, 10, 1.5
 SQLITE, POSTGRESQL = "sqlite", "postgresql"
+# So many of the slowest are asked again, so many times.
+SLOWEST, TIMES = 100, 3
 
 
 def processor_time(words, folder, source=os.devnull):
@@ -48,29 +50,29 @@ def processor_time(words, folder, source=os.devnull):
     return after.ru_utime + after.ru_stime - before.ru_utime - before.ru_stime
 
 
-def checks(options, folder, asked, server_process):
-    """Milliseconds of each check; and with their labels those during which the processors did nothing else."""
+def checks(options, folder, asked):
+    """Milliseconds of each check; and the label that is the slowest again, with its least time."""
     from idn2_registry import Zone
 
     # Python doesn't look for garbage in the lists that only this script has.
     gc.freeze()
     with before_others(), Zone.open(folder / "registry.toml", options.ours) as zone:
-        zone.check(asked[0])
-        processes = [os.getpid(), *children(os.getpid()), *(children(server_process) if server_process else ())]
-        times, undisturbed = [], []
-        for label in asked:
-            before, start = lost(processes), time.perf_counter()
+        def milliseconds(label):
+            start = time.perf_counter()
             answer = zone.check(label)
-            times.append((time.perf_counter() - start) * 1000)
-            if lost_since(before) < 1:
-                undisturbed.append((times[-1], label))
+            taken = (time.perf_counter() - start) * 1000
             if answer.reason:
                 raise Failed(f"no answer for {label}")
-    return times, undisturbed
+            return taken
+
+        milliseconds(asked[0])
+        times = [(milliseconds(label), label) for label in asked]
+        again = max((min(milliseconds(label) for _ in range(TIMES)), label) for _, label in heapq.nlargest(SLOWEST, times))
+    return [taken for taken, _ in times], again
 
 
 def measure(options, folder):
-    print(f"{'':<25}load, s   check, ms: middle   slowest   undisturbed   audit, times the program's own")
+    print(f"{'':<25}load, s   check, ms: middle   slowest     again   audit, times the program's own")
     print(f"{'wanted':<32}{CHECK_WANTED:21}{WORST_WANTED:10}{WORST_WANTED:10}   {AUDIT_WANTED}", flush=True)
     for table in options.tables:
         measure_table(options, folder, table)
@@ -90,20 +92,18 @@ def measure_table(options, folder, table):
         return
     with before_others(), server() as (environment, _):
         if environment:
-            [process, *_] = (pathlib.Path(environment["PGHOST"]) / "data" / "postmaster.pid").read_text("ascii").split()
-            measure_register(options, folder, table, asked, alone, uri_of(environment), int(process))
+            measure_register(options, folder, table, asked, alone, uri_of(environment))
 
 
-def measure_register(options, folder, table, asked, alone, register, server_process=None):
+def measure_register(options, folder, table, asked, alone, register):
     """A register with the labels, of which an audit by the program alone takes so many seconds."""
     command = [sys.executable, "-m", "idn2_registry"]
     (folder / "registry.toml").write_text(f'register = "{register}"\n[tables]\nasked = "{table}"\n', "utf-8")
     load = processor_time([*command, "load", "--idn2", options.ours, "labels.txt"], folder)
-    times, undisturbed = checks(options, folder, asked, server_process)
+    times, (again, label) = checks(options, folder, asked)
     audit = min(processor_time([*command, "audit", "--idn2", options.ours], folder) for _ in range(options.rounds))
-    worst, label = max(undisturbed, default=(math.nan, ""))
     print(f"{table.stem:<14}{register.partition(':')[0]:<11}{load:7.1f}{statistics.median(times):21.2f}"
-          f"{max(times):10.2f}{worst:10.2f} of {len(undisturbed):,}: {label}   {audit / alone:.2f} of {alone:.1f} s", flush=True)
+          f"{max(times):10.2f}{again:10.2f}   {audit / alone:.2f} of {alone:.1f} s: {label}", flush=True)
 
 
 def words():

@@ -116,22 +116,6 @@ def children(process):
     return found
 
 
-def lost(processes):
-    """For how many milliseconds each of some processes, each of one thread, was ready and had no processor, without those that have
-    ended; and under None for how many the processors of a virtual machine were its host's."""
-    told = {}
-    for process in processes:
-        with contextlib.suppress(FileNotFoundError, ProcessLookupError):
-            told[process] = int(pathlib.Path(f"/proc/{process}/schedstat").read_text("ascii").split()[1]) / 1e6
-    stolen = pathlib.Path("/proc/stat").read_text("ascii").split(None, 9)[8]
-    return {**told, None: int(stolen) * 1000 / os.sysconf("SC_CLK_TCK")}
-
-
-def lost_since(before):
-    """How much more that is by now, of those that have not ended."""
-    return sum(now - before[process] for process, now in lost(filter(None, before)).items())
-
-
 def found(program):
     return shutil.which(program, path="/usr/bin:/bin:/usr/local/bin")
 
