@@ -111,6 +111,8 @@ class Refusal:
         where = str(told["code_point"]) if "code_point" in told else ""
         if "place" in told:
             where += f" at place {told['place']}"
+        # Of an A-label it is a place in what that stands for.
+        words += ": decoded" if "decoded" in told else ""
         words += f": {where.strip()}" if where else ""
         return f"{words} ({told['rule']})" if "rule" in told else words
 

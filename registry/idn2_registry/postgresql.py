@@ -242,7 +242,7 @@ class PostgresqlRegister(Register):
             is_copy = value(connection, "select pg_is_in_recovery()")
             isolation = value(connection, "show transaction_isolation")
         except psycopg.Error as error:
-            raise self.unknown(f"{first_line(error)}: start the database, or mend register") from error
+            raise self.unknown(f"{first_line(error)}: start or make the database, or mend register") from error
         if is_copy:
             connection.close()
             raise self.unusable("a copy, which may lag: name the server on which labels are registered")

@@ -36,6 +36,7 @@ def test_tells_available_taken_and_refused_labels(place: Place) -> None:
         (["--", "-maß"], "-maß: refused: 13 hyphen out of place: U+002D at place 1\n", 1),
         (["maß\r"], "maß\\r: refused: control character: U+000D at place 4\n", 1),
         (["Faß"], "Faß: refused: 10 disallowed code point: U+0046 at place 1 (RFC 5892 2.2)\n", 1),
+        (["xn--a"], "xn--a: refused: 10 disallowed code point: decoded: U+0080 at place 1 (RFC 5892 2.1)\n", 1),
         (["xn--zzzz"], "xn--zzzz: refused: 19 not an A-label (RFC 3492 6.2)\n", 1),
         (["--holder", "H2", "straße"], "straße: available (xn--strae-oqa)\n", 0),
         (["--holder", "H1", "straße"], "straße: taken by strasse, held by H2\n", 1),

@@ -208,7 +208,7 @@ def test_names_the_line_of_a_database_that_is_away(bare: Place, tmp_path: Path) 
     uri = f"postgresql://postgres@/x?host={tmp_path}&password=secret"
     bare.write("other.toml", "\n" + HEAD.replace("sqlite:register.db", uri))
     expect_told(bare, OPENING_A_REGISTER, "other.toml", f"line 2: register: postgresql: host {tmp_path}, dbname x",
-                "start the database, or mend register")
+                "start or make the database, or mend register")
 
 
 def test_names_the_line_of_a_database_without_a_register(server: Callable[[str], str], bare: Place) -> None:
