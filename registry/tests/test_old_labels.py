@@ -49,7 +49,7 @@ def test_loads_and_writes_names_of_a_zone(kind: Place) -> None:
         "names.txt: line 2: 10 disallowed code point: U+0058 at place 1 (RFC 5892 2.2)",
         "names.txt: line 3: 10 disallowed code point: U+0048 at place 1 (RFC 5892 2.2)",
         "names.txt: line 5: 19 not an A-label (RFC 3492 6.2)",
-        "names.txt: line 6: 12 not in NFC: U+0075 at place 1",
+        "names.txt: line 6: 12 not in NFC: decoded: U+0075 at place 1",
         "6 lines, 0 loaded, 5 refused"] and done.returncode == 1, done
     kind.expect(["load", "--old", "names.txt"], "6 lines, 6 loaded, 0 refused\n", 0)
     kind.expect(["dump"], DUMPED, 0)
@@ -70,7 +70,7 @@ def test_releases_by_a_name_old_labels_alone(place: Place) -> None:
     load_old(place, "haus", "xn--ls8h")
     place.expect(["release", "XN--LS8H", "xn--ls8h", "Haus", "XN--HAUS-", "ab--c"],
                  "XN--LS8H: released\n"
-                 "xn--ls8h: refused: 10 disallowed code point: U+1F4A9 at place 1 (RFC 5892 2.1)\n"
+                 "xn--ls8h: refused: 10 disallowed code point: decoded: U+1F4A9 at place 1 (RFC 5892 2.1)\n"
                  "Haus: refused: 10 disallowed code point: U+0048 at place 1 (RFC 5892 2.2)\n"
                  "XN--HAUS-: refused: 10 disallowed code point: U+0058 at place 1 (RFC 5892 2.2)\n"
                  "ab--c: refused: 13 hyphen out of place: U+002D at place 3\n", 1)
@@ -152,7 +152,7 @@ def test_what_collides_with_an_old_label_is_taken(kind: Place) -> None:
     kind.expect(["check", "ß--a", "ss--a", "xn--zzzz", "xn--ls8h"],
                 "ß--a: taken by ss--a, held by H1\nss--a: refused: 13 hyphen out of place: U+002D at place 3\n"
                 "xn--zzzz: refused: 19 not an A-label (RFC 3492 6.2)\n"
-                "xn--ls8h: refused: 10 disallowed code point: U+1F4A9 at place 1 (RFC 5892 2.1)\n", 1)
+                "xn--ls8h: refused: 10 disallowed code point: decoded: U+1F4A9 at place 1 (RFC 5892 2.1)\n", 1)
     for job in ("check", "register"):
         kind.expect([job, "--holder", "H1", "ß--a"], "ß--a: taken by ss--a, held by H1\n", 1)
     kind.expect(["audit"], "ss--a, held by H1: no longer valid: 13 hyphen out of place: U+002D at place 3\n"
@@ -228,5 +228,5 @@ def test_audit_tells_what_no_load_takes(place: Place) -> None:
                  "-a\\told: no longer valid: 10 disallowed code point: U+0009 at place 3 (RFC 5892 2.3)\n"
                  "Maus: no longer valid: 10 disallowed code point: U+004D at place 1 (RFC 5892 2.2)\n"
                  "xn--fa-hia: no longer valid: it stands for faß\n"
-                 "xn--ls8h: no longer valid: 10 disallowed code point: U+1F4A9 at place 1 (RFC 5892 2.1)\n"
+                 "xn--ls8h: no longer valid: 10 disallowed code point: decoded: U+1F4A9 at place 1 (RFC 5892 2.1)\n"
                  "7 labels, 6 invalid, 0 groups\n", 1)
