@@ -286,7 +286,7 @@ def test_takes_files_whose_names_are_not_utf8(bare: Place) -> None:
         done = bare.run(*words)
         assert (done.stderr, done.returncode) == (b"", 0) and done.stdout, done
     done = bare.run("compare", name, os.fsdecode(b"\xfe.txt"))
-    assert done.returncode == 75 and b"\\udcfe.txt: No such file or directory: name a table" in done.stderr, done
+    assert done.returncode == 75 and b"\\xfe.txt: No such file or directory: name a table" in done.stderr, done
 
 
 def test_publishes_the_page_of_a_table_as_one_file(bare: Place) -> None:
