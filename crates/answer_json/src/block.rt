@@ -14,7 +14,7 @@ use crate::member::{put_flag, put_number, put_text};
 use crate::room::{MAX_OBJECT_LEN, ObjectRoom};
 
 /// Whether a variant may be allocated (RFC 7940, section 7.3).
-#[derive(Clone, Copy, Debug, PartialEq, Eq)]
+#[derive(Clone, Copy, PartialEq, Eq)]
 pub enum Disposition {
     Allocatable,
     Blocked,

@@ -10,7 +10,7 @@ use crate::member::{put_number, put_text};
 use crate::room::ObjectRoom;
 
 /// What a check tells of two sequences of a table.
-#[derive(Clone, Copy, Debug, PartialEq, Eq)]
+#[derive(Clone, Copy, PartialEq, Eq)]
 pub enum PairFinding {
     /// The table lacks the second as a variant of the first.
     Missing,

@@ -9,7 +9,7 @@ use crate::member::{put_number, put_text};
 use crate::room::{MAX_OBJECT_LEN, ObjectRoom};
 
 /// What a label is to another one.
-#[derive(Clone, Copy, Debug, PartialEq, Eq)]
+#[derive(Clone, Copy, PartialEq, Eq)]
 pub enum Regard {
     /// It is no variant of the other.
     NoVariant,
@@ -39,7 +39,7 @@ impl Regard {
 }
 
 /// What each of two labels is to the other.
-#[derive(Clone, Copy, Debug, PartialEq, Eq)]
+#[derive(Clone, Copy, PartialEq, Eq)]
 pub struct Regards {
     /// What the one that was found is to the one that was asked about.
     pub there: Regard,

@@ -8,7 +8,7 @@ use crate::room::{MAX_OBJECT_LEN, ObjectRoom};
 use std::str;
 
 /// A line of input, without its end.
-#[derive(Clone, Copy, Debug)]
+#[derive(Clone, Copy)]
 pub enum Input<'a> {
     /// UTF-8, which is told as it is.
     Text(&'a [u8]),

@@ -1,7 +1,7 @@
 //! What a refusal is told with.
 
 /// The members of a refusal after its number and its text: those that its cause has. Numbers count from 1.
-#[derive(Clone, Copy, Debug)]
+#[derive(Clone, Copy)]
 pub struct RefusalMembers<'a> {
     /// The number of the label in the name.
     pub label: Option<u128>,

@@ -7,7 +7,7 @@ use idn_text::{ReadFault, Refusal};
 use std::alloc::{AllocError, AllocFailed};
 
 /// Why a run ends early.
-#[derive(Clone, Copy, Debug, PartialEq, Eq)]
+#[derive(Clone, Copy, PartialEq, Eq)]
 pub enum Stop {
     /// The reader failed, or a bound on reading was met.
     Reading,

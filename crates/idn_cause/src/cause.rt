@@ -3,7 +3,7 @@
 use idn_class::{BarringLine, BidiClass, Broken};
 
 /// What gives a label its first fault. Places are counted from 0, in code points.
-#[derive(Clone, Copy, Debug, PartialEq, Eq)]
+#[derive(Clone, Copy, PartialEq, Eq)]
 pub enum Cause {
     /// A place, the code point there, and the line of RFC 5892, section 3, that bars it.
     Barred(usize, u32, BarringLine),

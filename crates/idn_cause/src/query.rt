@@ -19,7 +19,7 @@ use idna::{Errors, domain_to_ascii_cow};
 use std::alloc::{AllocError, Global};
 
 /// A length that the DNS does not allow.
-#[derive(Clone, Copy, Debug, PartialEq, Eq)]
+#[derive(Clone, Copy, PartialEq, Eq)]
 pub enum LengthCause {
     /// The number of the first label of such a length, counted from 0, and its octets.
     LabelOctets(usize, usize),

@@ -16,7 +16,7 @@ use unicode::properties::{
 
 /// A line of RFC 5892, section 3, or of this profile, by which a code point may not be registered. The letter in
 /// parentheses is that of section 2.
-#[derive(Clone, Copy, Debug, PartialEq, Eq)]
+#[derive(Clone, Copy, PartialEq, Eq)]
 pub enum BarringLine {
     /// The number is no Unicode scalar value.
     NoScalarValue,

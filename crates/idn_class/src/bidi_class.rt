@@ -12,7 +12,7 @@ use unicode::properties::GeneralCategory;
 
 /// Bidi_Class, with the values that the Bidi rule names. The list of the profile gives no code point ET, CS,
 /// ON or `Other`.
-#[derive(Clone, Copy, Debug, PartialEq, Eq)]
+#[derive(Clone, Copy, PartialEq, Eq)]
 pub enum BidiClass {
     /// Left-to-right.
     L,

@@ -11,7 +11,7 @@ use ucd_bidi::JoiningType as UnicodeJoiningType;
 use unicode::properties::GeneralCategory;
 
 /// Joining_Type. By the list of this profile letters join inside the Arabic block alone.
-#[derive(Clone, Copy, Debug, PartialEq, Eq)]
+#[derive(Clone, Copy, PartialEq, Eq)]
 pub enum JoiningType {
     /// R: joins with the code point before it.
     Right,

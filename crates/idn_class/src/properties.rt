@@ -1,7 +1,7 @@
 //! Whose properties of code points the tests of labels ask for.
 
 /// Whose Bidi classes, joining types and viramas a test asks for, and which code points are left out.
-#[derive(Clone, Copy, Debug, PartialEq, Eq)]
+#[derive(Clone, Copy, PartialEq, Eq)]
 pub enum Properties {
     /// The lists of this project (docs/PROFILE.md).
     Profile,

@@ -9,7 +9,7 @@ use unicode_normalization::IsNormalized;
 use unicode_normalization::slice::{is_nfkc_quick, is_nfkd_quick};
 
 /// What the table holds for a code point.
-#[derive(Clone, Copy, Debug, PartialEq, Eq)]
+#[derive(Clone, Copy, PartialEq, Eq)]
 pub(crate) enum Entry {
     Disallowed,
     Pvalid,

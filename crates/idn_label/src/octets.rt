@@ -16,7 +16,7 @@ use std::str;
 const SHORT_CHUNK_LEN: usize = 8;
 
 /// What the octets of a text in UTF-8 tell of its characters.
-#[derive(Clone, Copy, Debug, PartialEq, Eq)]
+#[derive(Clone, Copy, PartialEq, Eq)]
 pub(crate) enum Characters {
     /// All of them are ASCII.
     Ascii,

@@ -9,7 +9,7 @@ use idn_class::Facts;
 use std::marker::Model;
 
 /// That code points are not Punycode of scalar values (RFC 3492).
-#[derive(Clone, Copy, Debug, PartialEq, Eq)]
+#[derive(Clone, Copy, PartialEq, Eq)]
 pub struct NotPunycode;
 
 /// A label of at most 63 code points that was decoded. Contracts see the label.

@@ -9,7 +9,7 @@ pub const MAX_LINE_LEN: usize = 1024;
 
 /// A line without its end: the line feed, and one carriage return before it, are left out. Only `next_line` gives it,
 /// which only tests call.
-#[derive(Debug, Drop)]
+#[derive(Drop)]
 pub enum Body {
     Text(ArrayVec<u8, MAX_LINE_LEN>),
     /// A line of more than 1,024 bytes, a carriage return at its end counted.

@@ -13,7 +13,7 @@ use std::marker::Model;
 const LINE_LIMIT: u64 = 1 << 32;
 
 /// A line and its number, from 1, as `next_line` gives it.
-#[derive(Debug, Drop)]
+#[derive(Drop)]
 pub struct Line {
     /// From 1 to 4,294,967,296. A line that is too long counts too.
     pub number: u64,
@@ -22,7 +22,7 @@ pub struct Line {
 }
 
 /// How far lines were read: on to a next one, to the end, or to a fault.
-#[derive(Clone, Copy, Debug, PartialEq, Eq)]
+#[derive(Clone, Copy, PartialEq, Eq)]
 pub enum State {
     Open,
     Ended,

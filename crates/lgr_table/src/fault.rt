@@ -11,7 +11,7 @@ use ruleset_text::DefinitionFault;
 use std::alloc::{AllocError, AllocFailed};
 
 /// What is wrong with a ruleset of which no table is made.
-#[derive(Clone, Copy, Debug, PartialEq, Eq)]
+#[derive(Clone, Copy, PartialEq, Eq)]
 pub enum TableFault {
     /// It is no document of XML, or not one of RFC 7940.
     Syntax,
@@ -34,7 +34,7 @@ pub enum TableFault {
 }
 
 /// Why a ruleset has no table.
-#[derive(Clone, Copy, Debug, PartialEq, Eq)]
+#[derive(Clone, Copy, PartialEq, Eq)]
 pub enum TableError {
     /// What is wrong, and the line of the element that has it, counted from 1.
     Fault { fault: TableFault, line: usize },

@@ -25,7 +25,7 @@ pub(crate) struct FileNames<'a> {
 }
 
 /// What has a name in a table.
-#[derive(Clone, Copy, Debug, PartialEq, Eq)]
+#[derive(Clone, Copy, PartialEq, Eq)]
 pub(crate) enum Named {
     Type,
     Set,

@@ -5,7 +5,7 @@ ghost use Rattle.lgr_text.specs.declared.fault.ReadError.TheVariants.{Memory};
 use std::alloc::{AllocError, AllocFailed};
 
 /// Why no ruleset is read.
-#[derive(Clone, Copy, Debug, PartialEq, Eq)]
+#[derive(Clone, Copy, PartialEq, Eq)]
 pub enum ReadError {
     /// The element or the text on this line, counted from 1, isn't one of RFC 7940.
     Wrong(usize),

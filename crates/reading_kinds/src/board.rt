@@ -9,14 +9,14 @@ use std::alloc::{AllocError, Global};
 use std::marker::Model;
 
 /// How many columns a board has, and how many cells each of them.
-#[derive(Clone, Copy, Debug)]
+#[derive(Clone, Copy)]
 pub(crate) struct Size {
     pub(crate) columns: usize,
     pub(crate) places: usize,
 }
 
 /// Which kinds some reading has, and which some reading lacks: bit k tells of kind k.
-#[derive(Clone, Copy, Debug)]
+#[derive(Clone, Copy)]
 pub struct Words {
     pub has: u64,
     pub lacks: u64,

@@ -11,7 +11,7 @@ use crate::board::{Board, Words};
 use crate::label_substitutions::LabelSubstitutions;
 
 /// A cell of a board.
-#[derive(Clone, Copy, Debug)]
+#[derive(Clone, Copy)]
 struct Cell {
     column: usize,
     place: usize,

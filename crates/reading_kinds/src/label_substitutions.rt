@@ -6,14 +6,14 @@ ghost use Rattle.reading_kinds.specs.inner.Kept.{substitution_of, lists_of, IsKe
 use std::marker::Model;
 
 /// From one place of a list up to another one.
-#[derive(Clone, Copy, Debug)]
+#[derive(Clone, Copy)]
 pub(crate) struct Part {
     pub(crate) start: usize,
     pub(crate) end: usize,
 }
 
 /// A substitution, and where its code points are kept.
-#[derive(Clone, Copy, Debug)]
+#[derive(Clone, Copy)]
 pub(crate) struct StoredSubstitution {
     pub(crate) covers: usize,
     pub(crate) kinds: u64,

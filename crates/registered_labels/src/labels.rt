@@ -50,7 +50,7 @@ impl<T: Drop> From<AllocFailed<T>> for RegisteredFileFault {
 }
 
 /// Where a label stands in a text: the place of its first byte, and the place after its last.
-#[derive(Clone, Copy, Debug, PartialEq, Eq)]
+#[derive(Clone, Copy, PartialEq, Eq)]
 struct Span {
     start: u32,
     end: u32,

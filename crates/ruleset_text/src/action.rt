@@ -12,7 +12,7 @@ use variant_dispositions::Disposition;
 
 /// Which of the types that a reading records an action asks for: RFC 7940, section 7.2, calls them "any-variant",
 /// "all-variants" and "only-variants".
-#[derive(Clone, Copy, Debug, PartialEq, Eq)]
+#[derive(Clone, Copy, PartialEq, Eq)]
 pub enum TriggerKind {
     Any,
     All,

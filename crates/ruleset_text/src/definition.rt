@@ -14,7 +14,7 @@ use label_patterns::{PatternTree, PointSet, is_context_rule};
 use std::alloc::{AllocError, Global};
 
 /// What a demand asks of each label.
-#[derive(Clone, Copy, Debug, PartialEq, Eq)]
+#[derive(Clone, Copy, PartialEq, Eq)]
 pub enum DemandKind {
     /// No part of a label matches the pattern.
     Never,

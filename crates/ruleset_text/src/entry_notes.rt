@@ -18,7 +18,7 @@ const REPLACEMENT_LIMIT: usize = 17;
 pub const SEQUENCE_LIMIT: usize = 8;
 
 /// A code point that a line names. All is counted from 0.
-#[derive(Clone, Copy, Debug, PartialEq, Eq)]
+#[derive(Clone, Copy, PartialEq, Eq)]
 pub struct LinePoint {
     /// The first byte of the lexeme that names it.
     pub place: usize,

@@ -1,7 +1,7 @@
 //! The parts that entries and ranges of a version have.
 
 /// The parts that entries and ranges may have besides their code points.
-#[derive(Clone, Copy, Debug, PartialEq, Eq)]
+#[derive(Clone, Copy, PartialEq, Eq)]
 pub struct EntryParts {
     /// `!` before the source, which gives it the type invalid.
     pub invalid: bool,

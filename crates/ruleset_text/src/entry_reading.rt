@@ -26,7 +26,7 @@ use std::alloc::{AllocError, Global};
 use std::mem::replace;
 
 /// What a lexeme is in the line of an entry, where it is no code point and no name.
-#[derive(Clone, Copy, Debug, PartialEq, Eq)]
+#[derive(Clone, Copy, PartialEq, Eq)]
 enum EntryWord {
     /// `!`
     Mark,
@@ -48,7 +48,7 @@ enum EntryWord {
 }
 
 /// What was read last of a source or a variant.
-#[derive(Clone, Copy, Debug, PartialEq, Eq)]
+#[derive(Clone, Copy, PartialEq, Eq)]
 enum Phase {
     /// Nothing.
     Begin,

@@ -71,7 +71,7 @@ impl From<ReadError> for DefinitionRefusal {
 }
 
 /// Why a line, or what is left of one, isn't read.
-#[derive(Clone, Copy, Debug, PartialEq, Eq)]
+#[derive(Clone, Copy, PartialEq, Eq)]
 pub enum ReadError {
     /// It stops being what it is to be at this place.
     Stop(FaultPlace),
@@ -104,7 +104,7 @@ impl<T: Drop> From<AllocFailed<T>> for ReadError {
 }
 
 /// Where a line has faults that its form doesn't show: of each kind the first.
-#[derive(Clone, Copy, Debug, PartialEq, Eq)]
+#[derive(Clone, Copy, PartialEq, Eq)]
 pub struct LineFaults {
     /// What goes past a limit.
     pub limit: Option<FaultPlace>,
@@ -138,7 +138,7 @@ impl LineFaults {
 }
 
 /// Which kinds of faults a definition has that its form doesn't show.
-#[derive(Clone, Copy, Debug, PartialEq, Eq)]
+#[derive(Clone, Copy, PartialEq, Eq)]
 pub struct FoundFaults {
     /// Its pattern goes past a limit.
     pub limit: bool,

@@ -5,7 +5,7 @@ ghost use Rattle.ruleset_text.specs.Definition as definitions;
 use crate::names::is_word;
 
 /// The word with which a line begins that defines something.
-#[derive(Clone, Copy, Debug, PartialEq, Eq)]
+#[derive(Clone, Copy, PartialEq, Eq)]
 pub enum Keyword {
     /// `%type`
     VariantType,

@@ -7,7 +7,7 @@ ghost use Rattle.ruleset_text.specs.inner.FormTests as tests;
 use label_patterns::{PatternTree, is_anchor};
 
 /// What the grammar may call a pattern. Each is also the next.
-#[derive(Clone, Copy, Debug, PartialEq, Eq)]
+#[derive(Clone, Copy, PartialEq, Eq)]
 pub enum PatternSort {
     Atom,
     Item,
@@ -16,7 +16,7 @@ pub enum PatternSort {
 }
 
 /// A sign of a pattern that stands for no code point.
-#[derive(Clone, Copy, Debug, PartialEq, Eq)]
+#[derive(Clone, Copy, PartialEq, Eq)]
 pub enum PatternSign {
     Start,
     End,

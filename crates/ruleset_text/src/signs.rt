@@ -5,7 +5,7 @@ ghost use Rattle.ruleset_text.specs.PatternSigns as words;
 use crate::token::Token;
 
 /// How many groups are open, and whether `_` was read in the context that is being read.
-#[derive(Clone, Copy, Debug, PartialEq, Eq)]
+#[derive(Clone, Copy, PartialEq, Eq)]
 pub struct Signs {
     pub groups: usize,
     pub passed: bool,

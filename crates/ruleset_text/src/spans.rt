@@ -19,7 +19,7 @@ use label_patterns::{PointSet, Span};
 use std::alloc::{AllocError, Global};
 
 /// What a lexeme is among spans.
-#[derive(Clone, Copy, Debug, PartialEq, Eq)]
+#[derive(Clone, Copy, PartialEq, Eq)]
 pub enum SpanPart {
     Point(u32),
     /// `..`
@@ -28,7 +28,7 @@ pub enum SpanPart {
 }
 
 /// What is held after the spans that are complete.
-#[derive(Clone, Copy, Debug, PartialEq, Eq)]
+#[derive(Clone, Copy, PartialEq, Eq)]
 pub enum Held {
     /// Nothing: the next span begins with this number or above.
     Above(u64),

@@ -4,7 +4,7 @@ use label_patterns::Condition;
 use ruleset_text::DemandKind;
 
 /// Why a label that is made of sources may not be asked about.
-#[derive(Clone, Copy, Debug, PartialEq, Eq)]
+#[derive(Clone, Copy, PartialEq, Eq)]
 pub enum ValidityCause {
     /// The longest-first cut of the label ends at this place of it, from 0. This is the condition of the longest source
     /// there, and the conditions of all sources there fail. Without one no source is there.
@@ -21,7 +21,7 @@ pub enum ValidityCause {
 }
 
 /// What of an action makes a label invalid.
-#[derive(Clone, Copy, Debug, PartialEq, Eq)]
+#[derive(Clone, Copy, PartialEq, Eq)]
 pub enum ActionCause {
     /// It asks for a rule.
     Rule(Condition),

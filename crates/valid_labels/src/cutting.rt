@@ -9,7 +9,7 @@ use label_patterns::{both, either, has, with_place_if};
 use variant_table::Table;
 
 /// Places of a label from which one code point leads on, or nothing does.
-#[derive(Clone, Copy, Debug, PartialEq, Eq)]
+#[derive(Clone, Copy, PartialEq, Eq)]
 pub struct SingleSteps {
     /// These places.
     pub known: u64,

@@ -21,7 +21,7 @@ use variant_dispositions::{Action, INVALID, TypeTrigger, kind_of_source};
 use variant_table::Table;
 
 /// A source of the longest-first cut of a label.
-#[derive(Clone, Copy, Debug, PartialEq, Eq)]
+#[derive(Clone, Copy, PartialEq, Eq)]
 pub(crate) struct CutSource {
     /// Where it stands, from 0.
     pub place: usize,

@@ -33,7 +33,7 @@ impl<'a> Model for Segments<'a> {
 }
 
 /// A code point that is a source with which no other source begins, and the condition of that source.
-#[derive(Clone, Copy, Debug, PartialEq, Eq)]
+#[derive(Clone, Copy, PartialEq, Eq)]
 pub struct SinglePoint {
     pub point: u32,
     pub condition: Option<Condition>,

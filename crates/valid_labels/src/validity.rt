@@ -3,7 +3,7 @@
 use variant_dispositions::Disposition;
 
 /// Whether a label may be asked about.
-#[derive(Clone, Copy, Debug, PartialEq, Eq)]
+#[derive(Clone, Copy, PartialEq, Eq)]
 pub enum Admission {
     /// The label can't be cut into sources of the table, whatever their conditions.
     NotCut,
@@ -14,7 +14,7 @@ pub enum Admission {
 }
 
 /// Whether a label is valid.
-#[derive(Clone, Copy, Debug, PartialEq, Eq)]
+#[derive(Clone, Copy, PartialEq, Eq)]
 pub enum Validity {
     /// The first code points, as many as told, are the shortest dead prefix. No valid label begins with them.
     DeadPrefix(usize),

@@ -9,7 +9,7 @@ use crate::label_rules::LabelRules;
 use label_patterns::{Condition, ConditionKind};
 
 /// Which types have to be recorded (RFC 7940, section 7.2). A set of types is a word with the bits of their kinds.
-#[derive(Clone, Copy, Debug, PartialEq, Eq)]
+#[derive(Clone, Copy, PartialEq, Eq)]
 pub enum TypeTrigger {
     /// One of these.
     Any(u64),
@@ -20,7 +20,7 @@ pub enum TypeTrigger {
 }
 
 /// What becomes of a label that triggers it (RFC 7940, section 7.1).
-#[derive(Clone, Copy, Debug, PartialEq, Eq)]
+#[derive(Clone, Copy, PartialEq, Eq)]
 pub struct Action {
     pub disposition: Disposition,
     /// Whether the label has to match a rule, or must not. `None` asks for no rule.

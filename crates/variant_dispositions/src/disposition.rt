@@ -1,7 +1,7 @@
 //! Dispositions of labels.
 
 /// What becomes of a label (RFC 7940, section 7.3).
-#[derive(Clone, Copy, Debug, PartialEq, Eq)]
+#[derive(Clone, Copy, PartialEq, Eq)]
 pub enum Disposition {
     /// No valid label.
     Invalid,

@@ -12,7 +12,7 @@ use crate::label_rules::LabelRules;
 use reading_kinds::{Readings, Words};
 
 /// What is told of a label that arises as a variant.
-#[derive(Clone, Copy, Debug, PartialEq, Eq)]
+#[derive(Clone, Copy, PartialEq, Eq)]
 pub enum VariantDisposition {
     /// All of its readings record the same.
     Clear(Disposition),

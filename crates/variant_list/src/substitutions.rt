@@ -19,7 +19,7 @@ use variant_dispositions::{kind_of_source, kind_of_variant};
 use variant_table::{Entry, Table};
 
 /// Which cuts of a label into sources count.
-#[derive(Clone, Copy, PartialEq, Eq, Debug)]
+#[derive(Clone, Copy, PartialEq, Eq)]
 pub enum Cuts {
     /// Its segmentations: the condition of each source holds where it stands.
     Segmentations,

@@ -1,7 +1,7 @@
 //! What is found out about a label.
 
 /// What a judge says of a label.
-#[derive(Clone, Copy, Debug)]
+#[derive(Clone, Copy)]
 pub enum Verdict {
     /// The shortest dead prefix of the label has so many code points, one or more.
     DeadPrefix(usize),

@@ -41,7 +41,7 @@ pub enum TableFault {
 }
 
 /// Why an entry that isn't read from a line isn't added.
-#[derive(Clone, Copy, Debug, PartialEq, Eq)]
+#[derive(Clone, Copy, PartialEq, Eq)]
 pub enum EntryFault {
     /// No line spells it: it has no source, a sequence has no code point, or one that is no scalar value, or a name is
     /// none.
@@ -71,7 +71,7 @@ impl From<AllocError> for EntryFault {
 }
 
 /// Why a line is refused, and where, if a place is told.
-#[derive(Clone, Copy, Debug, PartialEq, Eq)]
+#[derive(Clone, Copy, PartialEq, Eq)]
 pub struct LineRefusal {
     pub fault: TableFault,
     pub place: Option<FaultPlace>,
@@ -103,7 +103,7 @@ impl TableFault {
 }
 
 /// Why a text is not read as a table, and where.
-#[derive(Clone, Copy, Debug, PartialEq, Eq)]
+#[derive(Clone, Copy, PartialEq, Eq)]
 pub struct TableRefusal<'a> {
     pub fault: TableFault,
     /// Where the line has the fault, if a place is told: none past a limit of the whole text, as of its entries or its

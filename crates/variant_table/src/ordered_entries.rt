@@ -113,7 +113,7 @@ pub struct LookUp<'a> {
 }
 
 /// Where a source stands in the order of the sources.
-#[derive(Clone, Copy, Debug, PartialEq, Eq)]
+#[derive(Clone, Copy, PartialEq, Eq)]
 enum SourcePlace {
     /// At this place.
     Found(usize),

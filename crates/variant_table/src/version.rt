@@ -12,7 +12,7 @@ use ruleset_text::EntryParts;
 
 /// Version 2 adds ranges of code points and blocked variants to version 1. Version 3, that of a ruleset, adds types,
 /// conditions and definitions, and has larger limits.
-#[derive(Clone, Copy, Debug, PartialEq, Eq)]
+#[derive(Clone, Copy, PartialEq, Eq)]
 pub enum Version {
     One,
     Two,
@@ -20,7 +20,7 @@ pub enum Version {
 }
 
 /// How a text is read: as a table or as a ruleset. No text is both.
-#[derive(Clone, Copy, Debug, PartialEq, Eq)]
+#[derive(Clone, Copy, PartialEq, Eq)]
 pub enum Notation {
     /// A table of version 1, or of version 2 if its first line is `%version 2`.
     Table,

@@ -5,7 +5,7 @@ ghost use Rattle.xml_text.specs.Attributes.{is as is_attribute, is_named};
 use std::marker::Model;
 
 /// An attribute: its name, and the UTF-8 of its value, in which each reference is replaced and each blank is a space.
-#[derive(Debug, Drop)]
+#[derive(Drop)]
 pub struct Attribute<'a> {
     name: &'a [u8],
     value: &'a [u8],
@@ -57,7 +57,7 @@ pub fn is_one_named(attributes: &[Attribute<'_>], name: &[u8]) -> bool
 }
 
 /// Whether the content of an element follows its tag.
-#[derive(Clone, Copy, Debug, PartialEq, Eq)]
+#[derive(Clone, Copy, PartialEq, Eq)]
 pub enum TagKind {
     /// `<name>`
     Start,
@@ -66,7 +66,7 @@ pub enum TagKind {
 }
 
 /// A start tag, or the tag of an empty element.
-#[derive(Debug, Drop)]
+#[derive(Drop)]
 pub struct Tag<'a> {
     pub name: &'a [u8],
     pub attributes: &'a [Attribute<'a>],

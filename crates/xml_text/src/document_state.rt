@@ -29,7 +29,7 @@ pub const MAX_LEVELS: usize = 64;
 const SECTION: &[u8] = b"CDATA[";
 
 /// What was read last.
-#[derive(Clone, Copy, Debug, PartialEq, Eq)]
+#[derive(Clone, Copy, PartialEq, Eq)]
 pub enum Part {
     /// A tag, a comment and the like, or character data: perhaps `]`.
     Content(Repeats),

@@ -6,7 +6,7 @@ ghost use Rattle.xml_text.specs.declared.fault.ReadError.TheVariants.{Memory};
 use std::alloc::{AllocError, AllocFailed};
 
 /// Why no tag is read, or nothing that is written after a declaration.
-#[derive(Clone, Copy, Debug, PartialEq, Eq)]
+#[derive(Clone, Copy, PartialEq, Eq)]
 pub enum ReadError {
     /// The text stops being so at this byte, counted from 0, or at its end.
     Stop(usize),
@@ -31,7 +31,7 @@ impl<T: Drop> From<AllocFailed<T>> for ReadError {
 }
 
 /// A byte of a text, counted from 0, and its line, counted from 1.
-#[derive(Clone, Copy, Debug, PartialEq, Eq)]
+#[derive(Clone, Copy, PartialEq, Eq)]
 pub struct Place {
     /// The byte, which may be the end of the text.
     pub byte: usize,
@@ -40,7 +40,7 @@ pub struct Place {
 }
 
 /// Why no document is read.
-#[derive(Clone, Copy, Debug, PartialEq, Eq)]
+#[derive(Clone, Copy, PartialEq, Eq)]
 pub enum DocumentError {
     /// The text has more bytes than a document may have.
     TooLong,

@@ -3,7 +3,7 @@ ghost use Rattle.std.specs.Prelude.{◌≡◌};
 ghost use Rattle.xml_text.specs.inner.DocumentSteps as steps;
 
 /// How often the byte of which two may end something was read last.
-#[derive(Clone, Copy, Debug, PartialEq, Eq)]
+#[derive(Clone, Copy, PartialEq, Eq)]
 pub enum Repeats {
     Zero,
     One,

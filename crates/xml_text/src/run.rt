@@ -14,7 +14,7 @@ use std::simd::prelude::*;
 const LANES: usize = 16;
 
 /// What a run is a part of. It has no end of a line after its first byte.
-#[derive(Clone, Copy, Debug, PartialEq, Eq)]
+#[derive(Clone, Copy, PartialEq, Eq)]
 pub enum Run {
     /// The name of a tag or an attribute.
     Name,

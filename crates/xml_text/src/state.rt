@@ -19,7 +19,7 @@ use bumpalo::collections::into_bump_slice;
 use std::alloc::{AllocError, Global};
 
 /// What was read last.
-#[derive(Clone, Copy, Debug, PartialEq, Eq)]
+#[derive(Clone, Copy, PartialEq, Eq)]
 pub enum Phase {
     /// Nothing.
     Open,

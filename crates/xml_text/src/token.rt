@@ -6,7 +6,7 @@ use crate::attribute::Attribute;
 use std::marker::Model;
 
 /// What a document says at a place of it.
-#[derive(Debug, Drop)]
+#[derive(Drop)]
 pub enum Said<'a> {
     /// A start tag, or the beginning of an empty element.
     Open(&'a [u8], &'a [Attribute<'a>]),
@@ -17,7 +17,7 @@ pub enum Said<'a> {
 }
 
 /// What a document says, and a line of it, counted from 1.
-#[derive(Debug, Drop)]
+#[derive(Drop)]
 pub struct Token<'a> {
     said: Said<'a>,
     line: usize,

@@ -33,7 +33,7 @@ use registered_labels::{Collisions, RegisteredLabels};
 use std::alloc::{AllocError, Global};
 
 /// A registered label that collides with a label, by its number, and what each of the two is to the other.
-#[derive(Clone, Copy, Debug)]
+#[derive(Clone, Copy)]
 pub(crate) struct Collision {
     pub number: usize,
     pub regards: Regards,

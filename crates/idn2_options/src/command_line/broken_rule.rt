@@ -1,7 +1,7 @@
 //! The program's own rules that words may break, as a cause tells them.
 
 /// An option that says what a listing has.
-#[derive(Clone, Copy, Debug, PartialEq, Eq)]
+#[derive(Clone, Copy, PartialEq, Eq)]
 pub enum ListingOption {
     After,
     Limit,
@@ -11,7 +11,7 @@ pub enum ListingOption {
 }
 
 /// A rule that is broken.
-#[derive(Clone, Copy, Debug, PartialEq, Eq)]
+#[derive(Clone, Copy, PartialEq, Eq)]
 pub enum BrokenRule {
     /// Two modes are named.
     TwoModes,

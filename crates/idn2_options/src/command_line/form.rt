@@ -1,7 +1,7 @@
 //! How answers are written.
 
 /// How a run writes its answers.
-#[derive(Clone, Copy, Debug, PartialEq, Eq)]
+#[derive(Clone, Copy, PartialEq, Eq)]
 pub enum Form {
     /// Answers are lines of the output, and refusals of lines and tables are messages.
     Plain,

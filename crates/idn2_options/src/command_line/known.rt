@@ -11,7 +11,7 @@ use crate::command_line::arguments::{
 };
 
 /// An option of the command line: its name, and what the help says of it.
-#[derive(Clone, Copy, Debug)]
+#[derive(Clone, Copy)]
 pub(crate) enum Known {
     /// It takes no value, and may have a letter.
     Flag(&'static str, Option<char>, &'static str),

@@ -9,7 +9,7 @@ use crate::command_line::uses::{Named, Use};
 use std::alloc::{AllocError, Global};
 
 /// What is wrong with the use of an option.
-#[derive(Clone, Copy, Debug, PartialEq, Eq)]
+#[derive(Clone, Copy, PartialEq, Eq)]
 pub enum Misuse {
     /// There is no such option.
     Unknown,

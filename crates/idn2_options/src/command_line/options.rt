@@ -8,7 +8,7 @@ use variant_table::Notation;
 
 /// What the words of the command line request. `read_options` keeps the ranges below, and a run
 /// requires them.
-#[derive(Debug, Drop)]
+#[derive(Drop)]
 pub struct Options {
     /// What is done with each line, or with the table.
     pub mode: Mode,

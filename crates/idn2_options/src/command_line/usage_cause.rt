@@ -11,7 +11,7 @@ use clap::error::ErrorKind;
 use std::alloc::{AllocError, Global};
 
 /// Why words are refused.
-#[derive(Debug, Drop)]
+#[derive(Drop)]
 pub enum UsageCause {
     /// They break a rule of the program.
     Rule(BrokenRule),

@@ -15,7 +15,7 @@ use crate::command_line::known::Known;
 use std::alloc::{AllocError, Global};
 
 /// An option as a word names it.
-#[derive(Clone, Copy, Debug)]
+#[derive(Clone, Copy)]
 pub(crate) enum Named<'w> {
     /// By its name: `--limit`.
     Name(&'w str),
@@ -24,7 +24,7 @@ pub(crate) enum Named<'w> {
 }
 
 /// One use of an option.
-#[derive(Clone, Copy, Debug)]
+#[derive(Clone, Copy)]
 pub(crate) struct Use<'w> {
     pub(crate) option: Named<'w>,
     /// What stands after `=`.
