@@ -289,6 +289,7 @@ FAULTS = [
      "line 4: 'count' is not an attribute of 'class' in RFC 7940 here\n"),
     (ABC, refusing('<union><char cp="0061"/></union>'), "line 4: 'char' is not an element of RFC 7940 here\n"),
     (ABC, refusing("<any/>behind"), "line 4: rule has a text within it\n"),
+    (ABC + "\nbeside\n\n", "", "line 3: data has a text within it\n"),
     ('<char cp="0061">0062</char>', "", "line 2: char has a text within it\n"),
     ('<char cp="0061"><var cp="0062"><var cp="0063"/></var></char>', "", "line 2: 'var' is not an element of RFC 7940 here\n"),
     # A class that would be smaller than its list.

@@ -264,7 +264,7 @@ def knows_properties(folder):
         found = listed(path, letters)
         for letter in has + hasnt:
             assert f"a{letter}a" not in letters or (f"a{letter}a" in found) == (letter in hasnt), (name, letter)
-    for name in ("ccc:255", "ccc:999", "sc:Nowhere", "gc:Xx"):
+    for name in ("ccc:255", "ccc:999", "ccc:1-9", "ccc:2_3", "sc:Nowhere", "gc:Xx"):
         path = ruleset(folder, '<char cp="0061"/>', refusing(f'<class property="{name}"/>'))
         assert fault_of(path) == (4, 37), name
 

@@ -53,14 +53,23 @@ value_test properties.JoiningType value = option_map (λ v c. joining_type_eq (j
 value_test properties.Deprecated value =
     option_map (λ has c. if has then is_deprecated c else not (is_deprecated c)) (truth_named value)
 
+-- a value as it is compared: all but combining classes, which are numbers, have names
+abbrev pub compared : Property → List ℕ → List ℕ
+compared properties.CombiningClass value = value
+compared properties.GeneralCategory value = loose value
+compared properties.Script value = loose value
+compared properties.BidiClass value = loose value
+compared properties.JoiningType value = loose value
+compared properties.Deprecated value = loose value
+
 abbrev pub test_of_value : Option Property → List ℕ → Option (ℕ → Bool)
 test_of_value None value = None
-test_of_value (Some property) value = value_test property value
+test_of_value (Some property) value = value_test property (compared property value)
 
 -- cut at this colon
 abbrev pub test_at : List ℕ → Option ℕ → Option (ℕ → Bool)
 test_at text None = None
-test_at text (Some at) = test_of_value (property_named (loose (take at text))) (loose (drop (at + 1) text))
+test_at text (Some at) = test_of_value (property_named (loose (take at text))) (drop (at + 1) text)
 
 -- which code points have a property with a value, as in 'gc:Mn'
 abbrev pub property_test : List ℕ → Option (ℕ → Bool)

@@ -41,7 +41,7 @@ impl<'a> Elements<'a> {
         let Some((first, others)) = without_blank_texts(self.tokens).split_first() else {
             return Ok(None);
         };
-        let wrong = ReadError::Wrong(first.line());
+        let wrong = ReadError::Wrong(line_of(first));
         let Some((full_name, attributes)) = opened(first.said()) else {
             return Err(wrong);
         };
@@ -115,6 +115,20 @@ fn text_in<'t>(said: &'t Said<'_>) -> Option<&'t [u8]>
         Said::Text(text) => Some(*text),
         Said::Open(_, _) | Said::Close => None,
     }
+}
+
+/// The line of a tag, or of the first byte of a text that is no blank. The token of a text has the line of the tag
+/// after it, and each end of a line is one line feed in it.
+fn line_of(token: &Token<'_>) -> usize {
+    match token.said() {
+        Said::Text(text) => token.line().saturating_sub(line_feeds(text.trim_ascii_start())),
+        Said::Open(_, _) | Said::Close => token.line(),
+    }
+}
+
+/// How many line feeds a text has.
+fn line_feeds(text: &[u8]) -> usize {
+    text.iter().filter(|byte| **byte == b'\n').count()
 }
 
 /// What follows the texts at the front that are blank.

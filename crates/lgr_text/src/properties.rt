@@ -27,14 +27,26 @@ pub(crate) fn property_set(alloc: Global, text: &[u8]) -> Result<Option<CodePoin
         return Ok(None);
     };
     let name = loose(alloc, &text[..at])?;
-    let value = loose(alloc, &text[at + 1..])?;
-    match property_named(&name) {
-        Some(property) => property.with_value(alloc, &value),
-        None => Ok(None),
-    }
+    let Some(property) = property_named(&name) else {
+        return Ok(None);
+    };
+    let value = property.compared(alloc, &text[at + 1..])?;
+    property.with_value(alloc, &value)
 }
 
 impl Property {
+    /// A value as it is compared: a number as it stands, and a name as names are.
+    fn compared(self, alloc: Global, value: &[u8]) -> Result<Vec<u8>, AllocError>
+        ensures { IfOk result (λ compared. compared.items ≡ terms.compared self value.now) }
+    {
+        match self {
+            Property::CombiningClass => value.to_vec(alloc),
+            Property::GeneralCategory | Property::Script => loose(alloc, value),
+            Property::BidiClass | Property::JoiningType => loose(alloc, value),
+            Property::Deprecated => loose(alloc, value),
+        }
+    }
+
     /// The code points that have the value of this name.
     fn with_value(self, alloc: Global, value: &[u8]) -> Result<Option<CodePoints>, AllocError>
         ensures { IfOk result (λ found. IsSetFor (terms.value_test self value.now) found) }
