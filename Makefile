@@ -14,14 +14,18 @@ DIST ?= dist
 # As many crates side by side as there are processors, and 3 GB of free memory for each.
 LANES ?= $(shell awk -v processors="$$(nproc)" '/MemAvailable/ { lanes = int($$2 / 3000000) } \
     END { print (lanes < 1 ? 1 : lanes < processors ? lanes : processors) }' /proc/meminfo)
+# How many crates are handed out at once, with as much memory for each. Most of them wait for crates below: no more than four
+# are ever proved at a time, and with fewer at once a processor waits, too.
+JOBS ?= $(shell awk '/MemAvailable/ { jobs = int($$2 / 3000000) } END { print (jobs < 1 ? 1 : jobs < 8 ? jobs : 8) }' /proc/meminfo)
 
 .PHONY: all run test packages test-crate wrong-bodies install program-name dist check-tables bench conformance evaluator fuzz \
     class-table changed-answers clean
 
 # Proves every function that the program uses, the first time with several crates at once, and builds and tries the program.
+# The program comes last: with its libraries there, rt doesn't read it once more beforehand.
 all:
 	@mkdir -p $(dir $(PROVED)) && touch $(PROVED).begun
-	test -x $(PROGRAM) || (cd crates/idn2 && $(RT) all test --jobs $(LANES))
+	test -x $(PROGRAM) || for crate in idn2_cli idn2; do (cd crates/$$crate && $(RT) all test --jobs $(JOBS)) || exit 1; done
 	cd crates/idn2 && $(RT) run < stdin > /dev/null
 	@mv $(PROVED).begun $(PROVED)
 
@@ -60,7 +64,7 @@ test-crate:
 
 # The mutants that the gate leaves out, of all crates or of those that CRATES names.
 wrong-bodies:
-	cd crates/idn2_cli && $(RT) all check --jobs $(LANES)
+	cd crates/idn2_cli && $(RT) all check --jobs $(JOBS)
 	RT=$(RT) LANES=$(LANES) IS_PROVED=1 python3 tests/planted.py wrong-bodies $(CRATES)
 
 # The program, its manual page, its completions for bash, zsh and fish, and its tables, below $(DESTDIR)$(PREFIX), each under
