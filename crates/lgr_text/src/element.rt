@@ -121,7 +121,9 @@ fn text_in<'t>(said: &'t Said<'_>) -> Option<&'t [u8]>
 /// after it, and each end of a line is one line feed in it.
 fn line_of(token: &Token<'_>) -> usize {
     match token.said() {
-        Said::Text(text) => token.line().saturating_sub(line_feeds(text.trim_ascii_start())),
+        Said::Text(text) => token
+            .line()
+            .saturating_sub(line_feeds(text.trim_ascii_start())),
         Said::Open(_, _) | Said::Close => token.line(),
     }
 }
