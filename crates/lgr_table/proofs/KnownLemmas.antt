@@ -1,7 +1,8 @@
 -- What is known of definitions that were taken.
-use Rattle.std.proofs.Common.{◌≡◌, ◌↔◌, ℕ, zero, suc, ◌<◌, Bool, List, [], ◌∷◌, map, length, take, get_or, sym, ap, subst, ◌∙◌, arith}
+use Rattle.std.proofs.Common.{◌≡◌, ◌↔◌, ℕ, zero, suc, ◌<◌, Bool, List, [], ◌∷◌, map, length, take, get_or, sym, ap, subst, ◌∙◌, ◌+◌, None, inl, inr, arith}
 use Rattle.std.specs.Prelude.{Contains, IsTrue, slice_index_or}
-use Rattle.std.proofs.lemmas.List.{get_or-map, get_or-take, length-map, length-take-le}
+use Rattle.std.proofs.lemmas.Bool.{cases_lt}
+use Rattle.std.proofs.lemmas.List.{get_or_default, get_or-map, get_or-take, length-map, length-take-le}
 use Rattle.idn_class.specs.declared.properties.Properties.{Properties}
 use Rattle.label_patterns.specs.Sets.{is_in}
 use Rattle.label_patterns.specs.declared.span.Span.{Span}
@@ -15,9 +16,10 @@ use Rattle.lgr_text.specs.declared.records.Definition.{Definition}
 use Rattle.lgr_text.specs.declared.records.Entry.{Entry}
 use Rattle.lgr_text.specs.declared.records.Ruleset.{Ruleset}
 use Rattle.lgr_table.specs.Tables.{may_stand}
-use Rattle.lgr_table.specs.Faults.{ComesNext, HasPlace, IsKnown, Knows}
+use Rattle.lgr_table.specs.Faults.{AreFaultless, ComesNext, HasPlace, IsFaultless, IsKnown, Knows, meaning_fault}
+use Rattle.lgr_table.specs.inner.RuleSteps.{AddsMeaning}
 use Rattle.lgr_table.proofs.TakenLemmas.{AreTaken, IsMeant}
-use Rattle.lgr_table.proofs.TakenOrderLemmas.{all-chosen, blank, chosen, within}
+use Rattle.lgr_table.proofs.TakenOrderLemmas.{all-chosen, blank, chosen, has-place, within}
 
 known-as : (known : Known) (sets : List (List Span)) (name : List ℕ) (meaning : Meaning) → IsMeant known sets name meaning → IsKnown known sets name meaning
 known-as known sets name (IsClass class) meant = record { found = meant.found; members = meant.members }
@@ -92,3 +94,43 @@ knows-all may r order points known sets kept is taken branches = record {
       (taken.meant (definition d) (all-chosen r.definitions.items order (definition d) is (in-map definition r.definitions.items d h)));
   branches = branches;
 }
+
+-- ---- definitions without a fault
+
+pub no-fault : (known new : Known) (sets more : List (List Span)) (name : List ℕ) (m : Meaning) → AddsMeaning known sets name m new more
+    → meaning_fault known m ≡ None
+no-fault known new sets more name (IsClass class) adds = adds.0.no_fault
+no-fault known new sets more name (IsRule rule) adds = adds.no_fault
+
+-- of those of these numbers none has a fault
+abbrev pub AreFaultlessSoFar : (ℕ → Bool) → Ruleset → List ℕ → Type 0
+AreFaultlessSoFar may r numbers = (d : Definition) → HasPlace r.definitions.items numbers d → IsFaultless may r d
+
+pub none-so-far : (may : ℕ → Bool) (r : Ruleset) (order : List ℕ) → AreFaultlessSoFar may r (take 0 order)
+none-so-far may r order d h = absurd (let size = length-take-le 0 order (omega arith) in let less = h.1 in omega (arith, less, size))
+
+pub faultless-more : (may : ℕ → Bool) (r : Ruleset) (order : List ℕ) (i : ℕ) (d : Definition) → IsOrder r.definitions.items order → i < length order
+    → d ≡ get_or r.definitions.items (get_or order i 0) d → IsFaultless may r d → AreFaultlessSoFar may r (take i order)
+    → AreFaultlessSoFar may r (take (i + 1) order)
+faultless-more may r order i d is less at this earlier e h =
+    let raw = r.definitions.items in
+    let p = h.0 in
+    let few = h.1 in
+    let size : length (take (i + 1) order) ≡ i + 1 = length-take-le (i + 1) order (omega (arith, less)) in
+    let size_before : length (take i order) ≡ i = length-take-le i order (omega (arith, less)) in
+    let up_to : p < i + 1 = omega (arith, few, size) in
+    let there : get_or (take (i + 1) order) p 0 ≡ get_or order p 0 = get_or-take (i + 1) order p 0 up_to in
+    let is_e : get_or raw (get_or order p 0) e ≡ e = subst (λ (n : ℕ). get_or raw n e ≡ e) there h.2 in
+    elim (cases_lt p i) [
+      | inl before ↦ earlier e
+          (p, omega (arith, before, size_before), subst (λ (n : ℕ). get_or raw n e ≡ e) (sym (get_or-take i order p 0 before)) is_e)
+      | inr from ↦ (let last : p ≡ i = omega (arith, up_to, from) in
+          let here : get_or raw (get_or order i 0) e ≡ e = subst (λ (q : ℕ). get_or raw (get_or order q 0) e ≡ e) last is_e in
+          let same : d ≡ e = at ∙ get_or_default raw (get_or order i 0) d e (within raw order i is less) ∙ here in
+          subst (IsFaultless may r) same this)
+    ]
+
+pub all-faultless : (may : ℕ → Bool) (r : Ruleset) (order numbers : List ℕ) → IsOrder r.definitions.items order → numbers ≡ order
+    → AreFaultlessSoFar may r numbers → AreFaultless may r
+all-faultless may r order numbers is same so_far d h =
+    so_far d (subst (λ (l : List ℕ). HasPlace r.definitions.items l d) (sym same) (has-place r.definitions.items order d is h))

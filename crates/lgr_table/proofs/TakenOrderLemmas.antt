@@ -12,6 +12,7 @@ use Rattle.lgr_text.specs.NamedParts.{of_meaning, parts}
 use Rattle.lgr_text.specs.Records as lgr
 use Rattle.lgr_text.specs.Records.{Definition, IsRule, definition}
 use Rattle.lgr_text.specs.declared.records.Definition.{Definition as Held}
+use Rattle.lgr_table.specs.Faults.{HasPlace}
 use Rattle.lgr_table.proofs.TakenLemmas.{IsNew, names_of}
 
 abbrev pub blank : Definition
@@ -119,6 +120,12 @@ placed-at (j ∷ order) k e = by (eqb j k) refl e (placed-at order k)
         → (p : ℕ) × (p < length (j ∷ order)) × (get_or (j ∷ order) p 0 ≡ k)
     by true here found rest = (0, omega arith, eqb-true j k here)
     by false here found rest = (let later = rest found in (suc later.0, omega (arith, later.1), later.2))
+
+-- each definition has a place
+pub has-place : (raw : List Held) (order : List ℕ) (d : Held) → IsOrder raw order → Contains raw d → HasPlace raw order d
+has-place raw order d is h =
+    let at = placed-at order h.0 (not-false (is_placed order h.0) (is.whole h.0 h.1)) in
+    (at.0, at.1, ap (λ (n : ℕ). get_or raw n d) at.2 ∙ h.2)
 
 -- each definition was taken
 pub all-chosen : (raw : List Held) (order : List ℕ) (d : Definition) → IsOrder raw order → Contains (map definition raw) d

@@ -91,6 +91,15 @@ pub record HasWrongDefinition (may : ℕ → Bool) (r : Ruleset) (fault : RuleFa
   pub next : ComesNext may r definition known
   pub wrong : meaning_fault known (meaning definition.meaning) ≡ Some fault
 
+-- the definition has such a place, and no fault by what comes before it
+pub record IsFaultless (may : ℕ → Bool) (r : Ruleset) (d : Definition) : Type 0 where
+  pub known : Known
+  pub next : ComesNext may r d known
+  pub faultless : meaning_fault known (meaning d.meaning) ≡ None
+
+abbrev pub AreFaultless : (ℕ → Bool) → Ruleset → Type 0
+AreFaultless may r = (d : Definition) → Contains r.definitions.items d → IsFaultless may r d
+
 -- ---- conditions
 
 abbrev pub given : Option Condition → List Condition

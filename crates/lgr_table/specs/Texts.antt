@@ -5,7 +5,7 @@ use Rattle.lgr_text.specs.Documents.{Says}
 use Rattle.lgr_text.specs.Records.{Ruleset, file}
 use Rattle.lgr_text.specs.Sizes.{exceeds}
 use Rattle.lgr_text.specs.declared.records.Ruleset as held
-use Rattle.lgr_table.specs.Faults.{IsFaultOfTable}
+use Rattle.lgr_table.specs.Faults.{AreFaultless, IsFaultOfTable}
 use Rattle.lgr_table.specs.Tables.{IsTableOf, may_stand}
 use Rattle.lgr_table.specs.declared.fault.TableError.{TableError}
 use Rattle.lgr_table.specs.declared.fault.TableError.TheVariants as error
@@ -22,11 +22,12 @@ pub record SaysRuleset (text : List ℕ) (r : Ruleset) : Type 0 where
   pub document : IsDocument text tokens
   pub says : Says tokens r
 
--- the text says a ruleset, and the table says what that says
+-- the text says a ruleset, whose definitions have no fault, and the table says what that says
 pub record IsTableOfText (properties : Properties) (text : List ℕ) (t : TableValue) : Type 0 where
   pub ruleset_ : Ruleset
   pub said : SaysRuleset text ruleset_
   pub is : IsTableOf properties ruleset_ t
+  pub faultless : (r : held.Ruleset) × (file r ≡ ruleset_) × AreFaultless (may_stand properties) r
 
 -- ---- a text that has no table
 

@@ -7,7 +7,7 @@ ghost use Rattle.lgr_text.specs.Records.{entry as entry_of, file, meaning as mea
 ghost use Rattle.lgr_text.specs.inner.Branches.{HaveBranches};
 ghost use Rattle.lgr_text.specs.WellFormed.{IsWellFormedMeaning, IsWellFormedRuleset};
 ghost use Rattle.lgr_text.specs.declared.records.Ruleset as held;
-ghost use Rattle.lgr_table.specs.Faults.{ComesNext, IsFaultOfTable};
+ghost use Rattle.lgr_table.specs.Faults.{AreFaultless, ComesNext, IsFaultOfTable};
 ghost use Rattle.lgr_table.specs.Tables.{may_stand};
 ghost use Rattle.lgr_table.specs.inner.FaultSteps.{HasRulesOf, IsLimitOn, KnowsRules};
 ghost use Rattle.lgr_table.specs.inner.RuleSteps.{AddsMeaning, HasNoRules, HasOtherRules, known_by};
@@ -40,6 +40,7 @@ pub(crate) fn define_rules(
     ensures all { IfOk result (λ rules. HasRulesOf ruleset.now rules.items) }
     ensures known { IfOk result (λ rules. KnowsRules (may_stand builder.old.definitions.properties) ruleset.now
         rules.items builder.new.definitions.rules) }
+    ensures faultless { OnOk result (AreFaultless (may_stand builder.old.definitions.properties) ruleset.now) }
     ensures fault { IfErr result (IsFaultOfTable (may_stand builder.old.definitions.properties) ruleset.now) }
 {
     let properties = builder.definitions().properties();

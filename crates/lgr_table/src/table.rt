@@ -1,8 +1,8 @@
 //! From what a ruleset says to its table.
-ghost use Rattle.std.specs.Prelude.{IfErr, IfOk};
+ghost use Rattle.std.specs.Prelude.{IfErr, IfOk, OnOk};
 ghost use Rattle.lgr_text.specs.Records.{file};
 ghost use Rattle.lgr_text.specs.WellFormed.{IsWellFormedRuleset};
-ghost use Rattle.lgr_table.specs.Faults.{IsFaultOfTable};
+ghost use Rattle.lgr_table.specs.Faults.{AreFaultless, IsFaultOfTable};
 ghost use Rattle.lgr_table.specs.Tables.{IsTableOf, may_stand};
 
 use crate::actions::define_actions;
@@ -28,6 +28,7 @@ pub fn table_of(
 ) -> Result<Table, TableError>
     requires { IsWellFormedRuleset (file ruleset.now) }
     ensures table { IfOk result (IsTableOf properties (file ruleset.now)) }
+    ensures faultless { OnOk result (AreFaultless (may_stand properties) ruleset.now) }
     ensures fault { IfErr result (IsFaultOfTable (may_stand properties) ruleset.now) }
 {
     let mut builder = TableBuilder::new(alloc, properties);

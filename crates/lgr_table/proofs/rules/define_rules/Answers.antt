@@ -1,9 +1,9 @@
-use Rattle.std.proofs.Common.{◌≡◌, ℕ, List, get_or, map, take, refl, sym, ap, subst, ◌∙◌}
+use Rattle.std.proofs.Common.{rules, ◌≡◌, ℕ, List, get_or, map, take, refl, sym, ap, subst, ◌∙◌}
 use Rattle.std.proofs.lemmas.List.{take_all}
 use Rattle.std.proofs.lemmas.Result.{err_from_is_err_and}
 use Rattle.ruleset_text.specs.Definitions.{Definitions}
 use Rattle.lgr_text.specs.DefinitionOrder.{IsOrder, IsOrderFault}
-use Rattle.lgr_text.specs.Records.{definition, entry}
+use Rattle.lgr_text.specs.Records.{definition, entry, meaning}
 use Rattle.lgr_text.specs.declared.records.Definition.{Definition as Held}
 use Rattle.lgr_text.specs.declared.records.Entry.{Entry as HeldEntry}
 use Rattle.lgr_table.specs.Tables.{may_stand}
@@ -12,7 +12,8 @@ use Rattle.lgr_table.specs.inner.TableNames.{AreRuleNames}
 use Rattle.lgr_table.proofs.TableNameLemmas.{names-with}
 use Rattle.lgr_table.proofs.OtherRulesLemmas.{others-too}
 use Rattle.lgr_table.proofs.RuleLemmas.{adds-rules, all-rules}
-use Rattle.lgr_table.proofs.KnownLemmas.{comes-next, kept-there, knows-all}
+use Rattle.lgr_table.specs.Faults.{IsFaultless}
+use Rattle.lgr_table.proofs.KnownLemmas.{all-faultless, comes-next, faultless-more, kept-there, knows-all, no-fault, none-so-far}
 use Rattle.lgr_table.proofs.StepLemmas.{meaning-formed, taken-step}
 use Rattle.lgr_table.proofs.TakenLemmas.{AreTaken}
 use Rattle.lgr_table.proofs.TakenOrderLemmas.{chosen, within}
@@ -37,7 +38,28 @@ loop-number-preserved c =
     (subst (λ (l : List Held). IsOrder l c.in-Ok.order.items) c.deref-3.ensures.value c.in-Ok.ensures.order) in
     let entries = map entry c.deref-2.result.now in
     let points = c.in_ok-points.points in
+    let r = c.args.«ruleset».now in
+    let own = c.args.builder.now.definitions.properties in
+    let are =
+    kept-there points c.properties-properties.result own _ r.entries.items
+    (c.properties-properties.ensures ∙ ap (λ (d : Definitions). d.properties) c.definitions.ensures) c.deref.ensures.value
+    (c.in_ok-points.ensures {u = tt}) in
+    let i = c.loop-number.number-index in
+    let d = c.index-definition.result.now in
+    let known = known_by entries points c.loop-number.taken c.loop-number.builder.definitions.rules in
+    let sets = c.loop-number.builder.definitions.sets in
+    let so_far : AreTaken (map entry r.entries.items) points known sets (chosen (map definition raw) (take i order)) =
+    subst (λ (l : List HeldEntry). AreTaken (map entry l) points known sets (chosen (map definition raw) (take i order))) c.deref-2.ensures.value
+    c.loop-number.invariant.taken in
+    let this : IsFaultless (may_stand own) r d = record {
+      known = known;
+      next = comes-next (may_stand own) r order i d points known sets are is c.loop-number-test.true c.index-definition.ensures so_far
+          c.loop-number.invariant.branches;
+      faultless = no-fault known _ sets _ d.name (meaning d.meaning) c.in_ok-take.ensures.added;
+    } in
     record {
+      faultless = faultless-more (may_stand own) r order i d is c.loop-number-test.true c.index-definition.ensures this
+          c.loop-number.invariant.faultless;
       taken = taken-step raw order c.loop-number.number-index c.index-definition.result.now entries points
           (known_by entries points c.loop-number.taken c.loop-number.builder.definitions.rules)
           (known_by entries points c.take.new.taken c.take.new.builder.definitions.rules) c.loop-number.builder.definitions.sets
@@ -79,6 +101,7 @@ returns c =
       added = adds-rules own held order points known c.args.builder.now u is are taken refl c.loop-number.invariant.others c.args.types.now
           (subst (λ n. AreRuleNames n c.loop-number.taken.rule_names.items u.definitions) names c.loop-number.invariant.called);
       all = all-rules own held order points known c.args.builder.now u is are taken refl c.loop-number.invariant.others;
+      faultless = all-faultless (may_stand own) held order (take c.loop-number.number-index order) is all c.loop-number.invariant.faultless;
       known = (known, knows-all (may_stand own) held order points known u.definitions.sets are is taken c.loop-number.invariant.branches, refl, refl);
       fault = tt;
     }
@@ -113,3 +136,13 @@ returns-in_err-take-clause-fault c =
     c.loop-number.invariant.taken in
     rw (p.1, p.2) (c.in_err-take.ensures.fault (may_stand own) r (get_or order i 0, within raw order i is c.loop-number-test.true, sym c.index-definition.ensures)
     (comes-next (may_stand own) r order i d points known sets are is c.loop-number-test.true c.index-definition.ensures taken c.loop-number.invariant.branches))
+
+pub loop-number-init : goal.loop-number-init
+loop-number-init c = record {
+  faultless = none-so-far _ _ c.deref-number-items.result.now;
+  taken = search rules;
+  sets = search rules;
+  branches = search rules;
+  others = search rules;
+  called = search rules;
+}

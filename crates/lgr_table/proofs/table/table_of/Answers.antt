@@ -7,7 +7,7 @@ use Rattle.variant_table.specs.WellFormed.{IsTable}
 use Rattle.lgr_table.proofs.TableLemmas.{defines, is_table_of, names_still, no_actions, no_demands, no_entries, no_rules, no_types, rules_counted, types_counted}
 use Rattle.idn_class.specs.declared.properties.Properties.{Properties}
 use Rattle.lgr_table.specs.Entries.{needs_type}
-use Rattle.lgr_table.specs.Faults.{IsFaultOfTable}
+use Rattle.lgr_table.specs.Faults.{AreFaultless, IsFaultOfTable}
 use Rattle.lgr_table.specs.Numbers.{types_of}
 use Rattle.lgr_table.specs.inner.FaultSteps.{HasDefinitionsOf, HasRulesOf, KnowsRules}
 use Rattle.lgr_table.specs.inner.TypeSteps.{TellsTypes}
@@ -112,3 +112,9 @@ returns-in_err-add_entries-clause-fault c =
     } in
     rw (p.1, p.2) (subst (λ (q : Properties). HasDefinitionsOf (may_stand q) r n t → IsFaultOfTable (may_stand q) r c.in_err-add_entries.field-0.0) own
     (c.in_err-add_entries.ensures.fault c.requires.entries) defined)
+
+pub returns-clause-faultless : goal.returns-clause-faultless
+returns-clause-faultless c =
+    let own : c.define_types.new.builder.definitions.properties ≡ c.args.properties =
+    ap (λ (t : TableValue). t.definitions.properties) c.in_ok-types.ensures.added.others ∙ ap (λ (t : TableValue). t.definitions.properties) c.new-builder.ensures in
+    subst (λ (q : Properties). AreFaultless (may_stand q) c.args.ruleset.now) own c.in_ok-rules.ensures.faultless
