@@ -1,28 +1,29 @@
 -- What a class or a rule says stays where more is known.
-use Rattle.std.proofs.Common.{◌≡◌, ℕ, ◌<◌, Bool, true, false, not, List, [], ◌∷◌, ◌++◌, length, get_or, Option, Some, None, refl, sym, ap, subst, ◌∙◌, length-append, arith}
+use Rattle.std.proofs.Common.{◌≡◌, ℕ, ◌<◌, Bool, true, false, not, ◌&&◌, ◌||◌, List, [], ◌∷◌, ◌++◌, length, get_or, Option, Some, None, refl, sym, ap, subst, ◌∙◌, length-append, arith}
 use Rattle.std.specs.Prelude.{◌↔◌, if◌then◌else◌}
 use Rattle.std.specs.List.{All}
 use Rattle.std.proofs.lemmas.Bool.{lt-ltb, ltb-true}
 use Rattle.std.specs.Option.{option_or}
 use Rattle.std.proofs.lemmas.List.{get_or_append_left}
-use Rattle.std.proofs.lemmas.List.Elements.{All-append, All-nil, All-push, All-weaker}
+use Rattle.std.proofs.lemmas.List.Elements.{All-append, All-head, All-nil, All-push, All-weaker}
 use Rattle.label_patterns.specs.declared.span.Span.{Span}
 use Rattle.label_patterns.specs.Laws.{seen}
 use Rattle.label_patterns.specs.Matches.{Seen}
 use Rattle.label_patterns.specs.Patterns as pattern
 use Rattle.label_patterns.specs.Patterns.{Pattern}
+use Rattle.label_patterns.specs.Rules.{is_context_rule}
 use Rattle.label_patterns.specs.Sets.{is_in}
 use Rattle.ruleset_text.specs.Names.{number_of}
 use Rattle.lgr_text.proofs.PartLemmas.{begins-too}
 use Rattle.lgr_text.specs.ClassMembers.{class_fault, has, set_fault, set_named, tag_fault}
 use Rattle.lgr_text.specs.CodePoints.{is_joined}
 use Rattle.lgr_text.specs.Known.{Known, tagged}
-use Rattle.lgr_text.specs.PartMatches.{BeginsWith, IsOf, Matching, MatchesAround, MatchesAsPart, Place, SaysRule, name_fault, part_fault, rule_named}
+use Rattle.lgr_text.specs.PartMatches.{BeginsWith, IsOf, Matching, MatchesAround, MatchesAsPart, Place, SaysRule, has_anchor, name_fault, part_fault, rule_named}
 use Rattle.lgr_text.specs.Records.{Class, Listed, OfTag, OfProperty, OfClass, Joined, Complement, Part, Literal, Any, Of, Start, End, Anchor, OfRule, Then, Choice, Times}
 use Rattle.lgr_text.specs.declared.rule_error.RuleFault.{RuleFault}
 use Rattle.lgr_text.specs.declared.rule_error.RuleFault.TheVariants.{Undefined}
 use Rattle.lgr_text.specs.Names.{classes_of, rules_in}
-use Rattle.lgr_table.proofs.AgreeLemmas.{agree-known, parts-agree}
+use Rattle.lgr_table.proofs.AgreeLemmas.{agree-known, all-left, all-right, parts-agree}
 use Rattle.lgr_table.proofs.NumberLemmas.{number-stays}
 
 -- what is known keeps its meaning
@@ -162,6 +163,38 @@ free-stays old new grows p free = record {
   rules = All-weaker (λ n. name_fault old n ≡ None) (λ n. name_fault new n ≡ None)
       (λ name none. rule-none new name (grows.rules name (rule-found old name none)).0) (rules_in p) free.rules;
 }
+
+-- ---- the anchor
+
+found-named : (known : Known) (name : List ℕ) → number_of known.rule_names name < length known.rules
+    → has_anchor known (OfRule name) ≡ is_context_rule (rule_named known name)
+found-named known name found = ap (λ b. b && is_context_rule (rule_named known name)) (lt-ltb (number_of known.rule_names name) (length known.rules) found)
+
+-- of both of two parts
+anchors-stay : (old new : Known) (p q : Part) → All (λ name. name_fault old name ≡ None) (rules_in p ++ rules_in q)
+    → (All (λ name. name_fault old name ≡ None) (rules_in p) → has_anchor new p ≡ has_anchor old p)
+    → (All (λ name. name_fault old name ≡ None) (rules_in q) → has_anchor new q ≡ has_anchor old q)
+    → (has_anchor new p || has_anchor new q) ≡ (has_anchor old p || has_anchor old q)
+anchors-stay old new p q free left right =
+    let F : List ℕ → Type 0 = λ name. name_fault old name ≡ None in
+    ap (λ b. b || has_anchor new q) (left (all-left F (rules_in p) (rules_in q) free))
+    ∙ ap (λ b. has_anchor old p || b) (right (all-right F (rules_in p) (rules_in q) free))
+
+pub anchor-stays : (old new : Known) → Grows old new → (p : Part) → All (λ name. name_fault old name ≡ None) (rules_in p)
+    → has_anchor new p ≡ has_anchor old p
+anchor-stays old new grows (Literal points) free = refl
+anchor-stays old new grows Any free = refl
+anchor-stays old new grows (Of class) free = refl
+anchor-stays old new grows Start free = refl
+anchor-stays old new grows End free = refl
+anchor-stays old new grows Anchor free = refl
+anchor-stays old new grows (OfRule name) free =
+    let found = rule-found old name (All-head (λ n. name_fault old n ≡ None) name [] free) in
+    let there = grows.rules name found in
+    found-named new name there.0 ∙ ap is_context_rule there.1 ∙ sym (found-named old name found)
+anchor-stays old new grows (Then p q) free = anchors-stay old new p q free (anchor-stays old new grows p) (anchor-stays old new grows q)
+anchor-stays old new grows (Choice p q) free = anchors-stay old new p q free (anchor-stays old new grows p) (anchor-stays old new grows q)
+anchor-stays old new grows (Times count p) free = anchor-stays old new grows p free
 
 -- ---- rules
 

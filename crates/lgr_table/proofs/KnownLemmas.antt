@@ -23,7 +23,7 @@ use Rattle.lgr_table.proofs.TakenOrderLemmas.{all-chosen, blank, chosen, has-pla
 
 known-as : (known : Known) (sets : List (List Span)) (name : List ℕ) (meaning : Meaning) → IsMeant known sets name meaning → IsKnown known sets name meaning
 known-as known sets name (IsClass class) meant = record { found = meant.found; members = meant.members }
-known-as known sets name (IsRule rule) meant = record { found = meant.found; matches = meant.matches }
+known-as known sets name (IsRule rule) meant = record { found = meant.found; matches = meant.matches; anchor = meant.anchor }
 
 pub in-map : {X Y : Type 0} (f : X → Y) (xs : List X) (x : X) → Contains xs x → Contains (map f xs) (f x)
 in-map f [] x h = absurd (omega (arith, h.1))

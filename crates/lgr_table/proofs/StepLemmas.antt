@@ -6,10 +6,11 @@ use Rattle.std.proofs.lemmas.List.{get_or-map, length-map, map_more}
 use Rattle.label_patterns.specs.declared.span.Span.{Span}
 use Rattle.label_patterns.specs.Matches.{HasItsSets}
 use Rattle.label_patterns.specs.Patterns.{Pattern}
+use Rattle.label_patterns.specs.Rules.{is_context_rule}
 use Rattle.lgr_text.specs.DefinitionOrder.{IsOrder}
 use Rattle.lgr_text.specs.Known.{Known}
 use Rattle.lgr_text.specs.PartAtoms.{fault_within}
-use Rattle.lgr_text.specs.PartMatches.{part_fault, BeginsWith, MatchesAsPart, SaysRule}
+use Rattle.lgr_text.specs.PartMatches.{part_fault, has_anchor, BeginsWith, MatchesAsPart, SaysRule}
 use Rattle.lgr_text.specs.Records.{Definition, Entry, Part, definition, meaning}
 use Rattle.lgr_text.specs.WellFormed.{IsWellFormedMeaning}
 use Rattle.lgr_text.specs.declared.records.Definition.{Definition as Held}
@@ -53,14 +54,15 @@ within-none false x o e = e
 -- by what is found, and the sets that are made
 pub rule-adds : (known found : Known) (left : ℕ) (sets old made final : List (List Span)) (name : List ℕ) (rule : Part) (p : Pattern) (names : List (List ℕ)) (rules : List Pattern)
     → found ≡ known → old ≡ sets → final ≡ made → names ≡ known.rule_names ++ name ∷ [] → rules ≡ known.rules ++ p ∷ []
-    → fault_within left found rule ≡ None → HasItsSets (length made) p → SaysRule found made p rule → MatchesAsPart found made p rule → BeginsWith made old
-    → AddsPattern known sets name rule (record known { rule_names = names; rules = rules }) final
-rule-adds known found left sets old made final name rule p names rules same before after all_names all_rules none has_sets says matches begins = record {
+    → fault_within left found rule ≡ None → HasItsSets (length made) p → SaysRule found made p rule → MatchesAsPart found made p rule
+    → is_context_rule p ≡ has_anchor found rule → BeginsWith made old → AddsPattern known sets name rule (record known { rule_names = names; rules = rules }) final
+rule-adds known found left sets old made final name rule p names rules same before after all_names all_rules none has_sets says matches anchor begins = record {
   p = p;
   no_fault = subst (λ k. part_fault k rule ≡ None) same (within-none _ _ _ none);
   has_sets = subst (λ l. HasItsSets (length l) p) (sym after) has_sets;
   says = subst (λ k. SaysRule k final p rule) same (subst (λ l. SaysRule found l p rule) (sym after) says);
   matches = subst (λ k. MatchesAsPart k final p rule) same (subst (λ l. MatchesAsPart found l p rule) (sym after) matches);
+  anchor = subst (λ k. is_context_rule p ≡ has_anchor k rule) same anchor;
   kept = subst (λ l. BeginsWith final l) before (subst (λ l. BeginsWith l old) (sym after) begins);
   is = ap (λ l. record known { rule_names = l; rules = rules }) all_names
       ∙ ap (λ l. record known { rule_names = known.rule_names ++ name ∷ []; rules = l }) all_rules;

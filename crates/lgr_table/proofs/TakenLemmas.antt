@@ -7,17 +7,18 @@ use Rattle.std.proofs.lemmas.List.Elements.{All-append, All-head, All-nil, All-p
 use Rattle.std.proofs.lemmas.List.Quantifiers.{all_pairs_push}
 use Rattle.label_patterns.specs.declared.span.Span.{Span}
 use Rattle.label_patterns.specs.Patterns as pattern
+use Rattle.label_patterns.specs.Rules.{is_context_rule}
 use Rattle.label_patterns.specs.Sets.{is_in}
 use Rattle.ruleset_text.specs.Names.{number_of}
 use Rattle.lgr_text.proofs.PartLemmas.{begins-so}
 use Rattle.lgr_text.specs.ClassMembers.{class_fault, has, set_fault, set_named}
 use Rattle.lgr_text.specs.Known.{Known}
-use Rattle.lgr_text.specs.PartMatches.{BeginsWith, MatchesAsPart, SaysRule, name_fault, rule_named}
+use Rattle.lgr_text.specs.PartMatches.{BeginsWith, MatchesAsPart, SaysRule, has_anchor, name_fault, rule_named}
 use Rattle.lgr_text.specs.Records as lgr
 use Rattle.lgr_text.specs.Records.{Class, Definition, Entry, IsClass, IsRule, Meaning, Part}
 use Rattle.lgr_text.specs.Names.{all_classes, classes_in, named_classes, named_rules}
 use Rattle.lgr_table.specs.inner.RuleSteps.{AddsMeaning, AddsPattern, AddsSet}
-use Rattle.lgr_table.proofs.GrowthLemmas.{Grows, IsFree, class-none, class-stays, first-none, free-stays, matches-stay, part-free, rule-found, rule-grows, says-stays, second-none, set-found, set-grows}
+use Rattle.lgr_table.proofs.GrowthLemmas.{Grows, IsFree, anchor-stays, class-none, class-stays, first-none, free-stays, matches-stay, part-free, rule-found, rule-grows, says-stays, second-none, set-found, set-grows}
 use Rattle.lgr_table.proofs.NumberLemmas.{name-there, number-found, number-new, number-stays}
 
 -- ---- what a definition means
@@ -32,6 +33,7 @@ pub record IsPatternOf (known : Known) (sets : List (List Span)) (name : List �
   pub no_fault : IsFree known rule
   pub says : SaysRule known sets (rule_named known name) rule
   pub matches : MatchesAsPart known sets (rule_named known name) rule
+  pub anchor : is_context_rule (rule_named known name) ≡ has_anchor known rule
 
 abbrev pub IsMeant : Known → List (List Span) → List ℕ → Meaning → Type 0
 IsMeant known sets name (IsClass class) = IsSetOf known name class
@@ -53,6 +55,7 @@ meant-stays old new sets more name (IsRule rule) grows begins meant =
           (says-stays old new sets more (rule_named old name) rule grows begins meant.no_fault meant.says);
       matches = subst (λ q. MatchesAsPart new more q rule) (sym both.1)
           (matches-stay old new sets more (rule_named old name) rule grows begins meant.no_fault meant.matches);
+      anchor = ap is_context_rule both.1 ∙ meant.anchor ∙ sym (anchor-stays old new grows rule meant.no_fault.rules);
     }
 
 -- ---- what was taken
@@ -310,6 +313,7 @@ taken-rule entries points known new sets more done name rule taken is_new adds =
           (says-stays known grown more more adds.p rule grows (begins-so more) free adds.says);
       matches = subst (λ q. MatchesAsPart grown more q rule) (sym last.1)
           (matches-stay known grown more more adds.p rule grows (begins-so more) free adds.matches);
+      anchor = ap is_context_rule last.1 ∙ adds.anchor ∙ sym (anchor-stays known grown grows rule free.rules);
     }
 
     grown_taken : AreTaken entries points grown more (done ++ d ∷ [])

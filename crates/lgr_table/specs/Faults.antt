@@ -5,6 +5,7 @@ use Rattle.std.specs.Prelude.{◌≡◌, ◌≢◌, ◌⊎◌, ◌↔◌, ℕ, �
 use Rattle.std.specs.Prelude.{AllPairs, Contains, filter, length, map, slice_index, slice_index_or, take}
 use Rattle.std.specs.List.{flat_map}
 use Rattle.label_patterns.specs.Sets.{is_in}
+use Rattle.label_patterns.specs.Rules.{is_context_rule}
 use Rattle.label_patterns.specs.declared.span.Span.{Span}
 use Rattle.lgr_text.specs.ClassMembers.{class_fault, has, set_named}
 use Rattle.lgr_text.specs.DefinitionOrder.{IsOrder, IsOrderFault}
@@ -47,10 +48,11 @@ pub record IsKnownClass (known : Known) (name : List ℕ) (class : Class) : Type
   pub found : number_of known.set_names name < length known.sets
   pub members : (c : ℕ) → c ≤ 0x10FFFF → is_in (set_named known name) c ≡ has known class c
 
--- the rule of this name is known by a pattern, which matches what the rule does
+-- the rule of this name is known by a pattern, which matches what the rule does, and has the anchor if the rule has it
 pub record IsKnownRule (known : Known) (sets : List (List Span)) (name : List ℕ) (rule : Part) : Type 0 where
   pub found : number_of known.rule_names name < length known.rules
   pub matches : MatchesAsPart known sets (rule_named known name) rule
+  pub anchor : is_context_rule (rule_named known name) ≡ has_anchor known rule
 
 abbrev pub IsKnown : Known → List (List Span) → List ℕ → Meaning → Type 0
 IsKnown known sets name (IsClass class) = IsKnownClass known name class

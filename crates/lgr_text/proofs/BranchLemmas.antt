@@ -393,3 +393,9 @@ pub branches-have : (known : Known) (b : Bool) (rule : Part) (first last : List 
     → HasItsSets (length last) tree
 branches-have known b rule first last tree made =
     subst (HasItsSets (length last)) (sym made.is) (choice-has made.row made.others (length last) made.known)
+
+-- the anchor stands in its pattern where it stands in its branches
+pub branches-anchored : (known : Known) (b : Bool) (rule : Part) (first last : List (List Span)) (tree : Pattern) → MakesRule known b first last tree rule
+    → is_context_rule tree ≡ b
+branches-anchored known true rule first last tree made = ap is_context_rule made.is ∙ anchored-rule made.row made.others made.shapes
+branches-anchored known false rule first last tree made = ap is_context_rule made.is ∙ no-anchor-rule (made.row ∷ made.others) made.shapes

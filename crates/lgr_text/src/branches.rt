@@ -2,6 +2,7 @@
 //! each of which has the anchor, by itself or from a rule that is named.
 ghost use Rattle.std.specs.Prelude.{◌≡◌, ◌+◌, false, true, map, length, None, IfOk, IsTrue, OnOk};
 ghost use Rattle.label_patterns.specs.Matches.{HasItsSets};
+ghost use Rattle.label_patterns.specs.Rules.{is_context_rule};
 ghost use Rattle.label_patterns.specs.Trees.{pattern};
 ghost use Rattle.ruleset_text.specs.Grammar.{Is, Whole};
 ghost use Rattle.ruleset_text.specs.Rules.{is_rule_or_whole};
@@ -181,6 +182,8 @@ pub fn pattern_of_rule(
     ensures known { IfOk result (λ tree. HasItsSets (length made.new.sets.items) (pattern tree)) }
     ensures branches { IfOk result (λ tree. HasBranches (pattern tree)) }
     ensures form { IfOk result (λ tree. Is Whole (pattern tree) × IsTrue (is_rule_or_whole (pattern tree))) }
+    ensures anchor { IfOk result (λ tree.
+        is_context_rule (pattern tree) ≡ has_anchor_part (known_of known.entry) (part_of rule.now)) }
     ensures pattern { IfOk result (λ tree.
         SaysRule (known_of known.entry) made.new.sets.items (pattern tree) (part_of rule.now)) }
     ensures part { IfOk result (λ tree.

@@ -3,10 +3,11 @@ use Rattle.std.specs.Prelude.{◌≡◌, ℕ, ◌≤◌, List, [], ◌∷◌, �
 use Rattle.label_patterns.specs.declared.span.Span.{Span}
 use Rattle.label_patterns.specs.Matches.{HasItsSets}
 use Rattle.label_patterns.specs.Patterns.{Pattern}
+use Rattle.label_patterns.specs.Rules.{is_context_rule}
 use Rattle.label_patterns.specs.Sets.{is_in}
 use Rattle.lgr_text.specs.ClassMembers.{class_fault, has}
 use Rattle.lgr_text.specs.Known.{Known}
-use Rattle.lgr_text.specs.PartMatches.{part_fault, BeginsWith, MatchesAsPart, SaysRule}
+use Rattle.lgr_text.specs.PartMatches.{part_fault, has_anchor, BeginsWith, MatchesAsPart, SaysRule}
 use Rattle.lgr_text.specs.Records.{Class, Entry, IsClass, IsRule, Meaning, Part}
 use Rattle.lgr_table.specs.declared.taken.Taken.{Taken}
 use Rattle.ruleset_text.specs.Definitions.{Definitions}
@@ -38,6 +39,7 @@ pub record AddsPattern (known : Known) (sets : List (List Span)) (name : List �
   pub has_sets : HasItsSets (length more) p
   pub says : SaysRule known more p rule
   pub matches : MatchesAsPart known more p rule
+  pub anchor : is_context_rule p ≡ has_anchor known rule
   pub kept : BeginsWith more sets
   pub is : new ≡ record known { rule_names = known.rule_names ++ name ∷ []; rules = known.rules ++ p ∷ [] }
 

@@ -41,7 +41,7 @@ returns-in_ok-push-in-Ok-pattern_of_rule-clause-added c =
     rule-adds known found c.args.made.now.atoms_left old.sets c.args.made.now.sets.items made final c.args.definition.now.name
     (part c.in-Rule.rule) (pattern tree) c.push.new.self.items c.define_rule.new.builder.definitions.rules same c.requires.sets after
     names rules c.in-Ok-pattern_of_rule.ensures.fault c.in-Ok-pattern_of_rule.ensures.known c.in-Ok-pattern_of_rule.ensures.pattern
-    c.in-Ok-pattern_of_rule.ensures.part c.in-Ok-pattern_of_rule.ensures.sets in
+    c.in-Ok-pattern_of_rule.ensures.part c.in-Ok-pattern_of_rule.ensures.anchor c.in-Ok-pattern_of_rule.ensures.sets in
     subst (λ m. AddsMeaning known old.sets c.args.definition.now.name (meaning m)
     (known_by entries points (record taken { rule_names = c.push.new.self }) c.define_rule.new.builder.definitions.rules) final)
     (sym c.in-Rule.is) adds

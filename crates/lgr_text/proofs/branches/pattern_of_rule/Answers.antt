@@ -1,13 +1,14 @@
-use Rattle.std.proofs.Common.{true, false, length}
+use Rattle.std.proofs.Common.{◌≡◌, true, false, length, sym, ◌∙◌}
 use Rattle.std.specs.Prelude.{Result, Ok, Err, IfOk, OnOk}
 use Rattle.std.proofs.lemmas.Result.{IfOk-weaker}
 use Rattle.label_patterns.specs.Matches.{HasItsSets}
+use Rattle.label_patterns.specs.Rules.{is_context_rule}
 use Rattle.label_patterns.specs.Trees.{pattern}
 use Rattle.lgr_text.specs.Known.{known as known_of}
-use Rattle.lgr_text.specs.PartMatches.{BeginsWith, MatchesAsPart, SaysRule}
+use Rattle.lgr_text.specs.PartMatches.{BeginsWith, MatchesAsPart, SaysRule, has_anchor}
 use Rattle.lgr_text.specs.Records.{part as part_of}
 use Rattle.lgr_text.specs.inner.Branches.{HasBranches}
-use Rattle.lgr_text.proofs.BranchLemmas.{MakesRule, branches-are, branches-have, branches-match, branches-say}
+use Rattle.lgr_text.proofs.BranchLemmas.{MakesRule, branches-anchored, branches-are, branches-have, branches-match, branches-say}
 use Rattle.lgr_text.proofs.PlaceLemmas.{branches-form, IsRulePattern}
 use Rattle.lgr_text.proofs.branches.pattern_of_rule.Goals as goal
 
@@ -119,3 +120,21 @@ returns-else-has_anchor-clause-form c =
     let last = c.plain_pattern.new.sets.items in
     IfOk-weaker c.plain_pattern.result (λ tree. MakesRule known false first last (pattern tree) rule) (λ tree. IsRulePattern (pattern tree))
     (λ tree made. branches-form (pattern tree) (branches-are known false rule first last (pattern tree) made)) c.plain_pattern.ensures.branches
+
+pub returns-then-has_anchor-clause-anchor : goal.returns-then-has_anchor-clause-anchor
+returns-then-has_anchor-clause-anchor c =
+    let known = known_of c.args.known in
+    let rule = part_of c.args.rule.now in
+    let first = c.args.made.now.sets.items in
+    let last = c.anchored_pattern.new.sets.items in
+    IfOk-weaker c.anchored_pattern.result (λ tree. MakesRule known true first last (pattern tree) rule) (λ tree. is_context_rule (pattern tree) ≡ has_anchor known rule)
+    (λ tree made. branches-anchored known true rule first last (pattern tree) made ∙ sym c.if-has_anchor.true ∙ c.has_anchor.ensures) c.anchored_pattern.ensures.branches
+
+pub returns-else-has_anchor-clause-anchor : goal.returns-else-has_anchor-clause-anchor
+returns-else-has_anchor-clause-anchor c =
+    let known = known_of c.args.known in
+    let rule = part_of c.args.rule.now in
+    let first = c.args.made.now.sets.items in
+    let last = c.plain_pattern.new.sets.items in
+    IfOk-weaker c.plain_pattern.result (λ tree. MakesRule known false first last (pattern tree) rule) (λ tree. is_context_rule (pattern tree) ≡ has_anchor known rule)
+    (λ tree made. branches-anchored known false rule first last (pattern tree) made ∙ sym c.if-has_anchor.false ∙ c.has_anchor.ensures) c.plain_pattern.ensures.branches
