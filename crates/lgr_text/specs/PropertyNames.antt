@@ -1,5 +1,5 @@
 -- The names of properties and of their values in Unicode's PropertyAliases.txt and PropertyValueAliases.txt, in small
--- letters and without '_'. Those of categories and scripts are the kit's.
+-- letters and without '_'; of Bidi classes the short ones alone. Those of categories and scripts are the kit's.
 use Rattle.std.specs.Prelude.{ℕ, Bool, true, false, List, Option, Some, None, bytes_eq, codes, ◌||◌, if◌then◌else◌}
 use Rattle.ucd_bidi.specs.declared.BidiClass.{BidiClass}
 use Rattle.ucd_bidi.specs.declared.BidiClass.TheVariants as bidi
