@@ -1,8 +1,9 @@
 //! Reading what follows the declaration of a document.
-ghost use Rattle.std.specs.Prelude.{◌+◌, ◌≤◌, length, IfOk, IfErr};
+ghost use Rattle.std.specs.Prelude.{◌≡◌, ◌+◌, ◌≤◌, false, length, IfOk, IfErr, OnOk};
 ghost use Rattle.xml_text.specs.Documents.{IsBody};
 ghost use Rattle.xml_text.specs.Files.{StopsBody, max_bytes};
 ghost use Rattle.xml_text.specs.LineEnds.{line_feeds};
+ghost use Rattle.xml_text.specs.inner.DocumentSteps as steps;
 
 use crate::document_state::DocumentState;
 use crate::fault::ReadError;
@@ -23,6 +24,23 @@ pub fn read_body<'a>(
     ensures stop { IfErr result (StopsBody line text.now) }
 {
     let mut state = DocumentState::new(alloc, arena, line);
+    let read = read_by(&mut state, text);
+    let tokens = state.into_tokens();
+    read?;
+    Ok(tokens)
+}
+
+/// Reads all that follows a declaration, by a state that has read nothing.
+// Always inline: its one caller owns the state.
+#[inline(always)]
+fn read_by<'a>(state: &mut DocumentState<'a>, text: &'a [u8]) -> Result<(), ReadError>
+    requires start { steps.state state.old ≡ steps.start state.old.line }
+    requires after { state.old.is_after_return ≡ false }
+    requires short { length text.now ≤ max_bytes }
+    requires line { state.old.line ≤ max_bytes + 1 }
+    ensures read { OnOk result (IsBody state.old.line (line_feeds text.now) state.new.tokens.items) }
+    ensures stop { IfErr result (StopsBody state.old.line text.now) }
+{
     let mut place = 0;
     while place < text.len() {
         let (_, rest) = text.split_at(place);
@@ -32,7 +50,7 @@ pub fn read_body<'a>(
         }
     }
     if state.is_complete() {
-        Ok(state.into_tokens())
+        Ok(())
     } else {
         Err(ReadError::Stop(text.len()))
     }
