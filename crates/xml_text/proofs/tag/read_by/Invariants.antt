@@ -1,7 +1,7 @@
 use Rattle.std.proofs.Common.{◌≡◌, ◌-◌, ◌≤◌, Some, None, length, take}
 use Rattle.idn_text.specs.Stops.{run}
 use Rattle.xml_text.specs.inner.TagSteps.{start, step, state, kind_of}
-use Rattle.xml_text.proofs.tag.read_tag.Given as goal
+use Rattle.xml_text.proofs.tag.read_by.Given as goal
 
 -- the bytes so far lead to the state, and are no tag
 abbrev pub invariant-loop-place : goal.invariant-loop-place

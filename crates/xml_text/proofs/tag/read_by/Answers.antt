@@ -4,7 +4,7 @@ use Rattle.xml_text.specs.inner.Runs.{IsTaken}
 use Rattle.xml_text.specs.inner.TagSteps.{start, step, state, kind_of, Goes}
 use Rattle.xml_text.proofs.TagReads.{tag_read, stops_here, stops_past}
 use Rattle.xml_text.proofs.TakenLemmas.{taken_further}
-use Rattle.xml_text.proofs.tag.read_tag.Goals as goal
+use Rattle.xml_text.proofs.tag.read_by.Goals as goal
 
 pub loop-place-preserved : goal.loop-place-preserved
 loop-place-preserved c =
