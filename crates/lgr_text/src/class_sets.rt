@@ -1,5 +1,6 @@
 //! Classes as sets (RFC 7940, section 6.2).
 ghost use Rattle.std.specs.Prelude.{◌≡◌, ◌≤◌, ◌++◌, ℕ, Bool, MatchResult, IfOk, OnOk, map, IsTrue, ◌↔◌, Some, None};
+ghost use Rattle.std.specs.Prelude.{[], if◌then◌else◌};
 ghost use Rattle.std.specs.List.{list_any};
 ghost use Rattle.label_patterns.specs.declared.span.Span.{Span};
 ghost use Rattle.label_patterns.specs.Sets.{is_in};
@@ -9,7 +10,7 @@ ghost use Rattle.lgr_text.specs.ClassMembers.{HasSpans};
 ghost use Rattle.lgr_text.specs.CodePoints.{AreSpans};
 ghost use Rattle.lgr_text.specs.Known.{known as known_of, tagged as tagged_spans, single_points, HaveSpans};
 ghost use Rattle.lgr_text.specs.Properties.{property_has};
-ghost use Rattle.lgr_text.specs.Records.{class as class_of, entry, source};
+ghost use Rattle.lgr_text.specs.Records.{class as class_of, entry as entry_of, source};
 ghost use Rattle.lgr_text.specs.inner.Faults.{IsFaultOf};
 
 use crate::code_points::CodePoints;
@@ -69,24 +70,34 @@ fn having(alloc: Global, property: &[u8]) -> Result<CodePoints, RuleError>
 
 /// The code points of the entries that have a tag.
 fn tagged(alloc: Global, entries: &[Entry], tag: &[u8]) -> Result<CodePoints, RuleError>
-    requires { HaveSpans (map entry entries.now) }
+    requires { HaveSpans (map entry_of entries.now) }
     ensures members { IfOk result (λ set. (c : ℕ) →
-        is_in set c ≡ is_in (tagged_spans (map entry entries.now) tag.now) c) }
-    ensures fault { IsFaultOf (tag_fault (map entry entries.now) tag.now) result }
+        is_in set c ≡ is_in (tagged_spans (map entry_of entries.now) tag.now) c) }
+    ensures fault { IsFaultOf (tag_fault (map entry_of entries.now) tag.now) result }
 {
     let mut spans = Vec::new(alloc);
     let mut is_defined = false;
     for entry in entries {
-        if is_one_of(&entry.tags, tag) {
-            is_defined = true;
-            push_points(&mut spans, &entry.source)?;
-        }
+        is_defined |= push_tagged(&mut spans, entry, tag)?;
     }
     if is_defined {
         Ok(CodePoints::of_spans(alloc, &spans)?)
     } else {
         Err(RuleError::Fault(RuleFault::Undefined))
     }
+}
+
+/// Appends the code points of an entry, if it has a tag, and answers whether it has it.
+fn push_tagged(spans: &mut Vec<Span>, entry: &Entry, tag: &[u8]) -> Result<bool, AllocError>
+    ensures spans { let e = entry_of entry.now in OnOk result (spans.new.items ≡
+        spans.old.items ++ (if is_one e.tags tag.now then single_points e.source else [])) }
+    ensures has { IfOk result (λ has_tag. has_tag ≡ is_one (entry_of entry.now).tags tag.now) }
+{
+    let has_tag = is_one_of(&entry.tags, tag);
+    if has_tag {
+        push_points(spans, &entry.source)?;
+    }
+    Ok(has_tag)
 }
 
 /// Appends the code points of an entry, if each is an entry by itself.
