@@ -1,7 +1,7 @@
 -- What reading a definition tells is what makes reading refuse it.
 use Rattle.std.proofs.Common.{◌≡◌, ℕ, ◌+◌, ◌-◌, ◌≤◌, nat_le, nat_lt, Bool, true, false, cond, not, ◌||◌, List, [], ◌∷◌, length, Some, Result, Ok, Err, refl, sym, ap, subst, ◌∙◌, arith}
 use Rattle.std.specs.Prelude.{Option, is_some}
-use Rattle.std.specs.Result.{IsErr, IsErrAnd, result_ok}
+use Rattle.std.specs.Result.{IsErr, IsErrAnd, MatchResult, result_ok}
 use Rattle.std.proofs.lemmas.Bool.Decides.{nat_tests}
 use Rattle.std.proofs.Math.Bool.{or-false}
 use Rattle.label_patterns.specs.Patterns.{Pattern}
@@ -31,7 +31,7 @@ use Rattle.ruleset_text.specs.Definitions.{Definitions, all_atoms, defined, defi
 use Rattle.ruleset_text.specs.Definitions.{has_bad_class, has_known_names, is_line_over_limit, is_one_too_many, is_pattern_over_limit}
 use Rattle.ruleset_text.specs.Definitions.{with_definition}
 use Rattle.ruleset_text.specs.DefinitionTrees as trees
-use Rattle.ruleset_text.specs.DefinitionForms.{Adds, HasForm, Refused}
+use Rattle.ruleset_text.specs.DefinitionForms.{HasForm, Refused}
 use Rattle.ruleset_text.specs.inner.DefinitionSteps.{AreFound, IsEarlier, IsReadDefinition, Leaves, Refuses, found_of}
 use Rattle.ruleset_text.specs.Limits.{atoms, groups, has_its_sets, stars}
 use Rattle.ruleset_text.specs.LineFaults.{first_unknown, lexeme_place}
@@ -294,7 +294,7 @@ push_told limit d x fault.NoSuchName form e = (form, e)
 push_told limit d x fault.BadClass form e = (form, e)
 push_told limit d x fault.SameName form e = (form, e)
 
-pub pushed_fails : {X : Type 0} (limit : ℕ) (d : Definitions) (x : Definition) (f : DefinitionFault) (result : Result X DefinitionFault)
-    → IsErr result → IsErrAnd result (λ r. r ≡ f) → HasForm x → with_definition limit d (Some x) ≡ Err f → Adds limit d x result d
-pushed_fails limit d x f (Ok y) err is form e = absurd (let clash : false ≡ true = err in cc)
-pushed_fails limit d x f (Err r) err is form e = subst (Refused limit d x) (sym is) (push_told limit d x f form e)
+pub fresh_fails : {X : Type 0} (P : X → Type 0) (limit : ℕ) (d : Definitions) (x : Definition) (f : DefinitionFault) (result : Result X DefinitionFault)
+    → IsErr result → IsErrAnd result (λ r. r ≡ f) → HasForm x → with_definition limit d (Some x) ≡ Err f → MatchResult result P (Refused limit d x)
+fresh_fails P limit d x f (Ok y) err is form e = absurd (let clash : false ≡ true = err in cc)
+fresh_fails P limit d x f (Err r) err is form e = subst (Refused limit d x) (sym is) (push_told limit d x f form e)

@@ -11,11 +11,11 @@ ghost use Rattle.ruleset_text.specs.Definitions as words;
 ghost use Rattle.ruleset_text.specs.Definitions.{added, all_atoms, canonical_size, defined, definition_atoms};
 ghost use Rattle.ruleset_text.specs.Definitions.{nothing_defined, with_definition};
 ghost use Rattle.ruleset_text.specs.Definitions.{rule_name as name_of_rule, with_words};
-ghost use Rattle.ruleset_text.specs.DefinitionForms.{Adds};
+ghost use Rattle.ruleset_text.specs.DefinitionForms.{Adds, Refused};
 ghost use Rattle.ruleset_text.specs.DefinitionPlaces.{definition_place, place_of};
 ghost use Rattle.ruleset_text.specs.DefinitionTrees as trees;
 ghost use Rattle.ruleset_text.specs.DemandTrees.{demand};
-ghost use Rattle.ruleset_text.specs.inner.DefinitionSteps.{AreFound, IsEarlier, IsFaultless, Leaves};
+ghost use Rattle.ruleset_text.specs.inner.DefinitionSteps.{AreFound, IsEarlier, IsFaultless, IsFresh, Leaves};
 ghost use Rattle.ruleset_text.specs.Names.{is_one_of as is_among};
 ghost use Rattle.ruleset_text.specs.PlacedLexemes.{placed_lexemes, unplaced};
 ghost use Rattle.ruleset_text.specs.WellFormed.{AreDefinitions};
@@ -262,12 +262,7 @@ impl Definitions {
         ensures added { Adds limit self.old (trees.definition definition) result self.new }
         ensures err { OnErr result (self.new ≡ self.old) }
     {
-        if !has_form(&definition) {
-            return Err(DefinitionFault::Syntax);
-        }
-        let found = faults_of(alloc, self.earlier(), &definition)?;
-        let len = canonical_len(alloc, self.set_names(), &definition)?;
-        self.check(limit, &definition, found, len)?;
+        let len = self.len_of_fresh(alloc, limit, &definition)?;
         let atoms_left = atoms_left_after(&definition, self.atoms_left);
         self.add(definition, atoms_left, len)?;
         Ok(())
@@ -303,6 +298,26 @@ impl Definitions {
             atoms_left: self.atoms_left,
             properties: self.properties,
         }
+    }
+
+    /// How many bytes the canonical line of a definition has that isn't read from a line, or its first fault.
+    fn len_of_fresh(
+        &self,
+        alloc: Global,
+        limit: usize,
+        definition: &Definition,
+    ) -> Result<usize, DefinitionFault>
+        ensures { MatchResult result
+            (IsFresh limit self.now (trees.definition definition.now))
+            (Refused limit self.now (trees.definition definition.now)) }
+    {
+        if !has_form(definition) {
+            return Err(DefinitionFault::Syntax);
+        }
+        let found = faults_of(alloc, self.earlier(), definition)?;
+        let len = canonical_len(alloc, self.set_names(), definition)?;
+        self.check(limit, definition, found, len)?;
+        Ok(len)
     }
 
     /// Refuses a definition, if something is wrong with it: the first thing that is, in this order, where these faults

@@ -1,5 +1,5 @@
 -- What each step of reading a definition gives.
-use Rattle.std.specs.Prelude.{◌≡◌, ℕ, ◌-◌, ◌++◌, ◌||◌, nat_lt, not, true, false, Result, Ok, Err, List, length, map}
+use Rattle.std.specs.Prelude.{◌≡◌, ℕ, ◌+◌, ◌-◌, ◌≤◌, ◌++◌, ◌||◌, nat_lt, not, true, false, Result, Ok, Err, List, length, map}
 use Rattle.label_patterns.specs.Patterns.{Pattern}
 use Rattle.label_patterns.specs.Trees.{pattern}
 use Rattle.ruleset_text.specs.declared.definition_reading.ReadDefinition.{ReadDefinition}
@@ -21,9 +21,10 @@ use Rattle.ruleset_text.specs.Definition as definition
 use Rattle.ruleset_text.specs.Definition.{Definition}
 use Rattle.ruleset_text.specs.DefinitionPlaces.{Known, definition_faults, known_after, pattern_faults}
 use Rattle.ruleset_text.specs.Canonical.{definition_text}
-use Rattle.ruleset_text.specs.Definitions.{Definitions, definition_atoms, has_bad_class, has_known_names, has_most}
+use Rattle.ruleset_text.specs.Definitions.{Definitions, added, canonical_size, definition_atoms, has_bad_class, has_known_names, has_most}
 use Rattle.ruleset_text.specs.Definitions.{has_same_name, is_line_over_limit, is_one_too_many, whole_names}
 use Rattle.ruleset_text.specs.WellFormed.{AreDefinitions}
+use Rattle.ruleset_text.specs.DefinitionForms.{HasForm}
 use Rattle.ruleset_text.specs.DefinitionTrees as trees
 use Rattle.ruleset_text.specs.Limits.{atoms, groups, has_its_sets, stars}
 use Rattle.ruleset_text.specs.LineStops.{StopsAt}
@@ -86,6 +87,14 @@ pub record IsFaultless (limit : ℕ) (d : Definitions) (x : Definition) : Type 0
   pub line : is_line_over_limit limit d (length (definition_text d.set_names x)) ≡ false
   pub class : has_bad_class d.properties x ≡ false
   pub name : has_same_name d x ≡ false
+
+-- a definition that isn't read from a line may be added, and its canonical line has so many bytes
+pub record IsFresh (limit : ℕ) (d : Definitions) (x : Definition) (len : ℕ) : Type 0 where
+  pub form : HasForm x
+  pub faultless : IsFaultless limit d x
+  pub size : len ≡ length (definition_text d.set_names x)
+  pub without_fault : AreDefinitions (added d x)
+  pub room : canonical_size d + (len + 1) ≤ limit
 
 -- the fault is that of reading, unless memory was refused
 abbrev pub Refuses : DefinitionFault → Result Definitions DefinitionFault → Type 0
