@@ -1,5 +1,5 @@
 //! What the lines of a ruleset define.
-ghost use Rattle.std.specs.Prelude.{◌≡◌, ◌+◌, ◌-◌, ◌<◌, ◌≤◌, ◌^◌, ◌++◌, true, nat_le, length, map, IfErr};
+ghost use Rattle.std.specs.Prelude.{◌≡◌, ◌+◌, ◌-◌, ◌<◌, ◌≤◌, ◌^◌, [], ◌∷◌, ◌++◌, true, nat_le, length, map, IfErr};
 ghost use Rattle.std.specs.Prelude.{MatchResult, OnOk, OnErr, Some, Err};
 ghost use Rattle.std.specs.List.{AllByRecursion};
 ghost use Rattle.label_patterns.specs.Matches.{HasItsSets};
@@ -448,22 +448,54 @@ impl Definitions {
         ensures err { OnErr result (self.new ≡ self.old) }
     {
         match definition {
-            Definition::VariantType(name) => self.types.push(name)?,
-            Definition::Set(name, set) => {
-                self.sets.reserve(1)?;
-                self.set_names.push(name)?;
-                self.sets.push(set).unwrap();
-            }
-            Definition::Rule(name, contexts) => {
-                self.rules.reserve(1)?;
-                self.rule_names.push(name)?;
-                self.rules.push(contexts).unwrap();
-            }
-            Definition::Demand(kind, pattern) => self.demands.push(Demand { kind, pattern })?,
-            Definition::Action(action) => self.actions.push(action)?,
-        }
+            Definition::VariantType(name) => append(&mut self.types, name),
+            Definition::Set(name, set) => append_named(
+                &mut self.set_names,
+                &mut self.sets,
+                name,
+                set,
+            ),
+            Definition::Rule(name, contexts) => append_named(
+                &mut self.rule_names,
+                &mut self.rules,
+                name,
+                contexts,
+            ),
+            Definition::Demand(kind, pattern) => append(
+                &mut self.demands,
+                Demand { kind, pattern },
+            ),
+            Definition::Action(action) => append(&mut self.actions, action),
+        }?;
         self.atoms_left = atoms_left;
         self.written += len + 1;
         Ok(())
     }
+}
+
+/// Appends an item. An `Err` changes nothing.
+fn append<T: Drop>(items: &mut Vec<T>, item: T) -> Result<(), AllocError>
+    ensures ok { OnOk result (items.new.items ≡ items.old.items ++ item ∷ []) }
+    ensures err { OnErr result (items.new.items ≡ items.old.items) }
+{
+    items.push(item)?;
+    Ok(())
+}
+
+/// Appends an item and its name. An `Err` changes nothing.
+fn append_named<T: Drop>(
+    names: &mut Vec<Name>,
+    items: &mut Vec<T>,
+    name: Name,
+    item: T,
+) -> Result<(), AllocError>
+    ensures name { OnOk result (names.new.items ≡ names.old.items ++ name ∷ []) }
+    ensures item { OnOk result (items.new.items ≡ items.old.items ++ item ∷ []) }
+    ensures names { OnErr result (names.new.items ≡ names.old.items) }
+    ensures items { OnErr result (items.new.items ≡ items.old.items) }
+{
+    items.reserve(1)?;
+    names.push(name)?;
+    items.push(item).unwrap();
+    Ok(())
 }
