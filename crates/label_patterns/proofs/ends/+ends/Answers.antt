@@ -1,9 +1,10 @@
-use Rattle.std.proofs.Common.{◌≡◌, ℕ, sym, subst, arith}
+use Rattle.std.proofs.Common.{◌≡◌, ℕ, true, sym, subst, arith}
+use Rattle.std.specs.Prelude.{◌==◌}
 use Rattle.label_patterns.specs.declared.pattern_tree.PatternTree.{PatternTree}
 use Rattle.label_patterns.specs.Places.{AreEnds}
 use Rattle.label_patterns.specs.Matches.{Matches}
 use Rattle.label_patterns.specs.Trees.{pattern}
-use Rattle.label_patterns.proofs.RoundLemmas.{none-reached, reached-more, rounds-ends, then-ends, either-ends, AreParts}
+use Rattle.label_patterns.proofs.RoundLemmas.{none-reached, reached-more, rounds-ends, then-ends, either-ends, one-ends, AreParts}
 use Rattle.label_patterns.proofs.ends.+ends.Goals as goal
 
 pub loop-more-init : goal.loop-more-init
@@ -66,3 +67,21 @@ returns-after-loop-more t c =
     subst (λ p. AreEnds (m p) c.args.starts c.loop-more.found) (sym c.in-Many.is)
     (rounds-ends (m c.in-Many.part.value) c.args.starts c.loop-more.found kept.ends.0 kept.starts kept.reached kept.ends.1
     (subst (AreParts c.loop-more.found kept.ends.0) same kept.ends.2))
+
+pub returns-in-Point : goal.returns-in-Point
+returns-in-Point t c =
+    let m : PatternTree → ℕ → ℕ → Type 0 = λ p. Matches c.args.seen.now (pattern p) in
+    subst (λ p. AreEnds (m p) c.args.starts c.after.result) (sym c.in-Point.is)
+    (one-ends (λ d. d == c.in-Point.point) c.args.seen.now.label c.places_of_point.result c.args.starts c.after.result c.places_of_point.ensures.places c.after.ensures)
+
+pub returns-in-Any : goal.returns-in-Any
+returns-in-Any t c =
+    let m : PatternTree → ℕ → ℕ → Type 0 = λ p. Matches c.args.seen.now (pattern p) in
+    subst (λ p. AreEnds (m p) c.args.starts c.after-in-Any.result) (sym c.in-Any.is)
+    (one-ends (λ d. true) c.args.seen.now.label c.places_of_all.result c.args.starts c.after-in-Any.result c.places_of_all.ensures.places c.after-in-Any.ensures)
+
+pub returns-in-Start : goal.returns-in-Start
+returns-in-Start t c =
+    let m : PatternTree → ℕ → ℕ → Type 0 = λ p. Matches c.args.seen.now (pattern p) in
+    subst (λ p. AreEnds (m p) c.args.starts c.only.result) (sym c.in-Start.is)
+    c.only.ensures

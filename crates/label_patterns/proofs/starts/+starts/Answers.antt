@@ -1,9 +1,11 @@
-use Rattle.std.proofs.Common.{◌≡◌, ℕ, sym, subst, arith}
+use Rattle.std.proofs.Common.{◌≡◌, ℕ, [], true, length, sym, subst, arith}
+use Rattle.std.specs.Prelude.{slice_index_or}
 use Rattle.label_patterns.specs.declared.pattern_tree.PatternTree.{PatternTree}
-use Rattle.label_patterns.specs.Places.{AreStarts}
-use Rattle.label_patterns.specs.Matches.{Matches}
+use Rattle.label_patterns.specs.Places.{AreEnds, AreStarts}
+use Rattle.label_patterns.specs.Matches.{Matches, MatchesAt}
+use Rattle.label_patterns.specs.Sets.{is_in}
 use Rattle.label_patterns.specs.Trees.{pattern}
-use Rattle.label_patterns.proofs.RoundLemmas.{none-left, left-more, rounds-starts, then-starts, either-starts, AreParts}
+use Rattle.label_patterns.proofs.RoundLemmas.{none-left, left-more, rounds-starts, then-starts, either-starts, optional-starts, one-starts, only-starts, AreParts}
 use Rattle.label_patterns.proofs.starts.+starts.Goals as goal
 
 pub loop-more-init : goal.loop-more-init
@@ -66,3 +68,35 @@ returns-after-loop-more t c =
     subst (λ p. AreStarts (m p) c.args.stops c.loop-more.found) (sym c.in-Many.is)
     (rounds-starts (m c.in-Many.part.value) c.args.stops c.loop-more.found kept.ends.0 kept.stops kept.reached kept.ends.1
     (subst (AreParts c.loop-more.found kept.ends.0) same kept.ends.2))
+
+pub returns-in-Set : goal.returns-in-Set
+returns-in-Set t c =
+    let m : PatternTree → ℕ → ℕ → Type 0 = λ p. Matches c.args.seen.now (pattern p) in
+    subst (λ p. AreStarts (m p) c.args.stops c.before-in-Set.result) (sym c.in-Set.is)
+    (one-starts (is_in (slice_index_or c.args.seen.now.sets c.in-Set.set [])) c.args.seen.now.label c.places_of_set.result c.args.stops c.before-in-Set.result c.places_of_set.ensures.places c.before-in-Set.ensures)
+
+pub returns-in-Any : goal.returns-in-Any
+returns-in-Any t c =
+    let m : PatternTree → ℕ → ℕ → Type 0 = λ p. Matches c.args.seen.now (pattern p) in
+    subst (λ p. AreStarts (m p) c.args.stops c.before-in-Any.result) (sym c.in-Any.is)
+    (one-starts (λ d. true) c.args.seen.now.label c.places_of_all.result c.args.stops c.before-in-Any.result c.places_of_all.ensures.places c.before-in-Any.ensures)
+
+pub returns-in-Start : goal.returns-in-Start
+returns-in-Start t c =
+    let m : PatternTree → ℕ → ℕ → Type 0 = λ p. Matches c.args.seen.now (pattern p) in
+    subst (λ p. AreStarts (m p) c.args.stops c.only.result) (sym c.in-Start.is)
+    (only-starts 0 c.args.stops c.only.result c.only.ensures)
+
+pub returns-in-End : goal.returns-in-End
+returns-in-End t c =
+    let m : PatternTree → ℕ → ℕ → Type 0 = λ p. Matches c.args.seen.now (pattern p) in
+    subst (λ p. AreStarts (m p) c.args.stops c.only-in-End.result) (sym c.in-End.is)
+    (only-starts (length c.args.seen.now.label) c.args.stops c.only-in-End.result (subst (λ n. AreEnds (MatchesAt n) c.args.stops c.only-in-End.result) c.len.ensures.is c.only-in-End.ensures))
+
+pub returns-in-Optional : goal.returns-in-Optional
+returns-in-Optional t c =
+    let m : PatternTree → ℕ → ℕ → Type 0 = λ p. Matches c.args.seen.now (pattern p) in
+    subst (λ p. AreStarts (m p) c.args.stops c.either.result) (sym c.in-Optional.is)
+    (optional-starts (m c.in-Optional.part.value) c.args.stops c.starts-in-Optional.result c.either.result
+    (subst (λ p. AreStarts (m p) c.args.stops c.starts-in-Optional.result) c.deref-in-Optional.ensures c.starts-in-Optional.ensures)
+    c.either.ensures.places)
