@@ -1,9 +1,10 @@
 use Rattle.std.proofs.Common.{◌≡◌, ◌≢◌, Some, None, [], ◌∷◌, ap, map, sym, ◌∙◌}
-use Rattle.std.specs.Prelude.{string_bytes}
+use Rattle.std.specs.Prelude.{option_map, string_bytes}
 use Rattle.std.proofs.lemmas.Result.{IfOk-weaker}
 use Rattle.clap.specs.Words.{kind_of}
 use Rattle.clap.specs.declared.error.ErrorKind.{ErrorKind}
 use Rattle.clap.specs.declared.error.ErrorKind.TheVariants.{OutOfMemory}
+use Rattle.idn2_options.specs.Causes.{cause_of, told_by}
 use Rattle.idn2_options.proofs.AnswerLemmas.{kind-Err}
 use Rattle.idn2_options.proofs.AppKinds.{texts}
 use Rattle.idn2_options.proofs.CauseLemmas.{cause-Err, cause-Ok, few-texts, rule-refused, told-refused}
@@ -33,7 +34,9 @@ returns c =
     let fault = kind-Err words c.in-Err.error (texts c.args.words.now) c.in-Err.ensures.fault other in
     let told = cause-Err words c.kind.result (map string_bytes c.front.result.now) (fault ∙ ap (λ (kind : ErrorKind). kind ∷ []) (sym is_kind)) c.front.ensures.words in
     record {
-      cause = IfOk-weaker c.refused_by_clap.result _ _ (λ cause same. same ∙ told) c.refused_by_clap.ensures;
+      cause =
+          IfOk-weaker c.refused_by_clap.result _ (λ cause. option_map told_by cause ≡ cause_of words)
+          (λ cause same. same ∙ told) c.refused_by_clap.ensures;
       refused =
           IfOk-weaker c.refused_by_clap.result _ _
           (λ cause same. told-refused words cause (texts c.args.words.now) (few-texts c.args.words.now c.front.ensures.few) (same ∙ told)) c.refused_by_clap.ensures;
