@@ -1,6 +1,6 @@
 //! What the words of the command line request: options, help, the version, or nothing that can be done.
 use idn_class::Properties;
-use idn2_options::{Form, Options, Usage, input_text, read_options};
+use idn2_options::{Form, Notation, Options, Usage, input_text, read_options};
 use std::alloc::{AllocError, Global};
 use std::test::Fail;
 
@@ -55,8 +55,12 @@ fn summary_of(alloc: Global, line: &str) -> Result<String, AllocError> {
                 Properties::Profile => "",
                 Properties::Unicode => "Unicode ",
             };
+            let notation = match notation {
+                Notation::Table => "Table",
+                Notation::Ruleset => "Ruleset",
+            };
             let asked = format!(in alloc;
-                "{form}{properties}{mode:?} {std3} {explain} {file:?} {notation:?}"
+                "{form}{properties}{mode:?} {std3} {explain} {file:?} {notation}"
             )?;
             format!(in alloc;
                 "{asked} {after:?} {limit:?} {tries} {steps:?} {among:?}{others} {input:?}"
