@@ -620,6 +620,7 @@ def runs_the_main_job_without_a_proof_until_make_has_made_it(folder):
     asked, built, source = (os.path.join(crate, name) for name in ("asked", "out/idn2", "src/main.rt"))
     for name in ("src", "specs", "proofs"):
         os.makedirs(os.path.join(crate, name))
+    os.makedirs(os.path.join(folder, "crates", "idn2_cli", "out"))
     for path in (source, os.path.join(folder, "crates.txt"), os.path.join(crate, "stdin")):
         open(path, "w").close()
     os.symlink(TABLES, os.path.join(folder, "tables"))
