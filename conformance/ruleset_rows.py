@@ -142,6 +142,12 @@ CHECKS = [
      "differs 0061|0073-0073\ndiffers 0073-0073|00DF\n#table 3 0\n"),
     (CONDITIONS + "0063|0061 when r\n0061|0063:0062 when s\n0062\n",
      "missing 0062|0061\nmissing 0063|0062\ndiffers 0061|0063\n#table 3 2\n"),
+    # Types that no action names, though a variant has one; a predefined type is never idle.
+    ("0061 as valid|!0062\n", "missing 0062|0061\n#table 1 1\n"),
+    ("%type s\n%type t\n0061|0062 as s\n", "missing 0062|0061\nidle s\nidle t\n#table 1 1\n"),
+    ("%type s\n%type t\n%type u\n%action blocked any u,s\n", "idle t\n#table 0 0\n"),
+    ("%type s\n%type t\n%action valid all t\n%action allocatable only s\n", "#table 0 0\n"),
+    ("%type t\n%type s\n%whole r 0061\n%action invalid when r\n%action blocked any valid\n", "idle t\nidle s\n#table 0 0\n"),
     ("0061..0063\n", "#table 3 0\n"),
     ("  %set\tC 0061 .. 0063\n ! 0061 | ! 0062\n0062\n", "missing 0062|0061\n#table 2 1\n"),
     ("", "#table 0 0\n"),
@@ -197,6 +203,7 @@ FAULTS = [
     (CONDITIONS + "0061 when r\n0061 when s\n", 5, 31),
     # The first of a line's faults, in their order.
     ("0041 when nope\n", 2, 35), ("%never @nope 0041\n", 2, 35), ("%set C 0041\n", 2, 33), ("%never 0041\n", 2, 33),
+    ("%never " + "(" * 9 + "@nope" + ")" * 9 + "\n", 2, 34), ("%type t\n%rule t @nope _\n", 3, 35),
     ("%rule r 0041 _\n", 2, 33), ("%set t 0061\n%set t 0041\n", 3, 33), ("0061\n0061|0062:0062\n", 3, 32),
     ("0062\n0061..0063\n", 3, 31), ("%set D 0041..007A\n", 2, 33), ("-".join(["0041"] * 9) + " when nope\n", 2, 34),
     # A name is defined before the line that uses it.
@@ -229,12 +236,35 @@ AS_THEY_STAND = [
     ("%version 2\n!0061|0062\n", "--check-table", 2), ("%version 2\n%never 0061\n", "--check-table", 2),
 ]
 
+# A ruleset, and how it is printed, as that is, too.
 CANONICAL = [
     (" %set\tC  0061..0061 0062 .. 0064\n", "%set C 0061 0062..0064\n"),
     ("0062\n%rule r u+0061  ( 00e4/. )? _/_ $\n0063..0064  when r\n%type t\n0065 as t unless r | ! 0061 - 0061:00E4 as t\n",
      "%type t\n%rule r 0061 (00E4 / .)? _ / _ $\n0062\n0063 when r\n0064 when r\n"
      "0065 as t unless r|!0061-0061:00E4 as t\n"),
     ("%set C 0061\n%always @C*(^/(.)*)$\n! 0061|0062\n", "%set C 0061\n%always @C* (^ / (.)*) $\n!0061|0062\n"),
+    ("%type t\r\n", "%type t\n"),
+    ("# %never 0061\n%type T\n%type t\n", "%type T\n%type t\n"),
+    ("0061|!0062\n%rule end _$\n  %type\tt\n!0063..0064\n%set A u+0061 0062 .. 0063\n%rule r @A?_/^_",
+     "%type t\n%set A 0061 0062..0063\n%rule end _ $\n%rule r @A? _ / ^ _\n0061|!0062\n!0063\n!0064\n"),
+    ("%set A 0900..097F\n%rule r (@A .)* _ (0061 / @A)", "%set A 0900..097F\n%rule r (@A .)* _ (0061 / @A)\n"),
+    # Definitions come first, by their kind.
+    ("%set A u+0061 0065..0069\n%rule r _ @A/^ _\n%always @A.*\n %type  t1\n%set B 0064 .. 0066\n%never\t( 0030/0031 )* @B\n",
+     "%type t1\n%set A 0061 0065..0069\n%set B 0064..0066\n%rule r _ @A / ^ _\n%always @A .*\n%never (0030 / 0031)* @B\n"),
+    ("0061\n%always 0061*\n%never ^ 0061/0061  $\n%type t", "%type t\n%always 0061*\n%never ^ 0061 / 0061 $\n0061\n"),
+    ("%type simp\n%type trad\n4E2D\n56FD as simp|570B as trad\n570B as  trad|56FD as simp",
+     "%type simp\n%type trad\n4E2D\n56FD as simp|570B as trad\n570B as trad|56FD as simp\n"),
+    # A type without a line of its own, by its name and, where a mark says as much, by that.
+    ("0061 as allocatable|0062 as blocked:0063 as invalid\n0062 as invalid|!0063\n0063 as blocked",
+     "0061 as allocatable|!0062:0063 as invalid\n!0062|!0063\n0063 as blocked\n"),
+    ("%type own\n0061 as own|0062 as valid : 0063 as  activated", "%type own\n0061 as own|0062 as valid:0063 as activated\n"),
+    ("%type t\n0061..0062 as t\n%rule r 0061 _\n!0063..0064 when r",
+     "%type t\n%rule r 0061 _\n0061 as t\n0062 as t\n!0063 when r\n!0064 when r\n"),
+    ("%rule r _ 0062\n%rule s 0062 _\n0061|0063 when r:0063 when s:!0063 unless r\n0063|0061",
+     "%rule r _ 0062\n%rule s 0062 _\n0061|0063 when r:0063 when s:!0063 unless r\n0063|0061\n"),
+    ("%type t\n%rule s _\n0061 as t unless s|0062 as t when s", "%type t\n%rule s _\n0061 as t unless s|0062 as t when s\n"),
+    # A rule of a whole label may be a condition, too.
+    ("%whole all 0061\n0061 when all|0062 unless all", "%whole all 0061\n0061 when all|0062 unless all\n"),
 ]
 
 
@@ -246,15 +276,13 @@ def rows():
     for ruleset, output in CHECKS:
         files = {"table": VERSION_LINE + ruleset}
         yield ["--check-ruleset", "table"], "", files, (output, "", 0 if output.startswith("#table") else 1)
+    for ruleset, wanted in CANONICAL:
+        for text in (ruleset, wanted):
+            yield ["--print-ruleset", "table"], "", {"table": VERSION_LINE + text}, (VERSION_LINE + wanted, "", 0)
     faulty = [(VERSION_LINE + ruleset, "--check-ruleset", line, number) for ruleset, line, number in FAULTS]
     for text, option, line, number in [*faulty, *((text, option, line, 30) for text, option, line in AS_THEY_STAND)]:
         words = [] if option.startswith("--check") else ["a"]
         yield [option, "table", *words], "", {"table": text}, ("", f"idn2: table line {line}: {number} {TEXTS[number]}\n", 2)
-
-
-def canonical():
-    """Each text, and its canonical text."""
-    return [(VERSION_LINE + text, VERSION_LINE + wanted) for text, wanted in CANONICAL]
 
 
 def answer(wanted):

@@ -123,6 +123,8 @@ def rows() -> Iterator[Row]:
             files = {}
         elif len(first) == 2 and first[1] == ":":
             files[first[0]] = text_of(rest)
+        elif first == "canonical:":
+            yield ["--print-ruleset", "t"], "", files, (text_of(rest), "", 0)
         elif first.startswith("$ idn2 "):
             words = [word.replace("<TAB>", "\t") for word in shlex.split(first.removeprefix("$ idn2 "))]
             yield words, "", files, answer_of(rest)
@@ -147,16 +149,6 @@ def rows_of_fault(lines: str, number: int, place: str) -> Iterator[Row]:
     code_point = f'"code_point":"{place.split()[0]}",' if place.startswith("U+") else ""
     refusal = f'"number":{number},"text":"{TEXTS[number]}",{code_point}"byte":{place.split()[-1]}'
     yield [*words, "--json"], "", files, (f'{{"table_line":{line},"refusal":{{{refusal}}}}}\n', "", 2)
-
-
-def canonical() -> Iterator[tuple[str, str]]:
-    """Each text, and its canonical text."""
-    text = ""
-    for first, *rest in paragraphs():
-        if first == "t:":
-            text = text_of(rest)
-        elif first == "canonical:":
-            yield text, text_of(rest)
 
 
 def from_xml() -> Iterator[FromXml]:

@@ -20,7 +20,6 @@ import label_rows
 import ruleset_rows
 import run_rows
 import type_rows
-from idn2_registry.notation import canonical, reading
 from idn2_registry.notation.faults import TEXTS as FAULT_TEXTS
 from idn2_registry.unicode_data import Classes
 from objects import as_explained, without_what_objects_leave_out
@@ -305,8 +304,6 @@ def canonical_texts(classes):
     """Each text, what the reference implementation makes of it, and what is expected."""
     for table, wanted in CANONICAL:
         yield table, check.canonical_text(check.read(table.encode(), classes)), wanted
-    for ruleset, wanted in [*ruleset_rows.canonical(), *type_rows.canonical()]:
-        yield ruleset, canonical.text_of(reading.read(ruleset.encode(), classes.may_stand)), wanted
 
 
 def main():

@@ -22,7 +22,7 @@ import ruleset_rows
 import type_rows
 from evaluator_answers import answer_of_evaluator
 from idn2_registry import unicode_data
-from idn2_registry.notation import canonical, reading
+from idn2_registry.notation import reading
 from idn2_registry.notation.gaps import gaps
 from idn2_registry.rfc7940 import reader
 from idn2_registry.rfc7940.ruleset import Asked
@@ -86,14 +86,12 @@ def reference_implementation_answers(folder):
     assert unknown == ["0" * 20 + "\n"], unknown
 
 
-def reference_implementation_spells(folder):
-    """The canonical text of a ruleset, which is read as the same one."""
-    for text, wanted in [*ruleset_rows.canonical(), *type_rows.canonical()]:
-        ruleset = reading.read(text.encode(), BY_PROGRAM.may_stand)
-        found = canonical.text_of(ruleset)
-        assert found == wanted, (text, found)
-        again = reading.read(found.encode(), BY_PROGRAM.may_stand)
-        assert again == ruleset, (text, again)
+def reference_implementation_reads_what_is_printed(folder):
+    """As the same ruleset."""
+    for words, _, texts, (printed, *_) in [*ruleset_rows.rows(), *type_rows.rows()]:
+        if words[0] == "--print-ruleset":
+            ruleset, again = (reading.read(text.encode(), BY_PROGRAM.may_stand) for text in (texts[words[1]], printed))
+            assert ruleset == again, (texts, printed)
 
 
 def reads_xml_as_its_evaluator_does(folder):
@@ -370,7 +368,7 @@ def finds_collisions_by_least_variants(folder):
 
 TESTS = [
     reference_implementation_answers,
-    reference_implementation_spells,
+    reference_implementation_reads_what_is_printed,
     reads_xml_as_its_evaluator_does,
     reads_a_ruleset_in_xml,
     tells_the_line_of_what_is_wrong_in_xml,

@@ -25,46 +25,45 @@ fn input_of(alloc: Global, options: &Options) -> Result<String, AllocError> {
     }
 }
 
+/// What every mode knows.
+fn asked_of(alloc: Global, options: &Options) -> Result<String, AllocError> {
+    let form = match options.form {
+        Form::Plain => "",
+        Form::Json => "Json ",
+    };
+    let properties = match options.properties {
+        Properties::Profile => "",
+        Properties::Unicode => "Unicode ",
+    };
+    let (mode, std3, explain) = (options.mode, options.std3, options.explain);
+    format!(in alloc;
+        "{form}{properties}{mode:?} {std3} {explain} {:?}",
+        options.file
+    )
+}
+
+/// What a listing knows.
+fn listing_of(alloc: Global, options: &Options) -> Result<String, AllocError> {
+    let notation = match options.notation {
+        Notation::Table => "Table",
+        Notation::Ruleset => "Ruleset",
+    };
+    let others = if options.others { " others" } else { "" };
+    let (limit, tries, steps) = (options.limit, options.tries, options.steps);
+    format!(in alloc;
+        "{notation} {:?} {limit:?} {tries} {steps:?} {:?}{others}",
+        options.after, options.among
+    )
+}
+
 /// What a command line requests, in one line.
 fn summary_of(alloc: Global, line: &str) -> Result<String, AllocError> {
     match read(alloc, line) {
         Ok(options) => {
+            let asked = asked_of(alloc, &options)?;
+            let listing = listing_of(alloc, &options)?;
             let input = input_of(alloc, &options)?;
-            let Options {
-                mode,
-                std3,
-                properties,
-                explain,
-                form,
-                file,
-                notation,
-                strings: _,
-                after,
-                limit,
-                tries,
-                steps,
-                among,
-                others,
-            } = options;
-            let others = if others { " others" } else { "" };
-            let form = match form {
-                Form::Plain => "",
-                Form::Json => "Json ",
-            };
-            let properties = match properties {
-                Properties::Profile => "",
-                Properties::Unicode => "Unicode ",
-            };
-            let notation = match notation {
-                Notation::Table => "Table",
-                Notation::Ruleset => "Ruleset",
-            };
-            let asked = format!(in alloc;
-                "{form}{properties}{mode:?} {std3} {explain} {file:?} {notation}"
-            )?;
-            format!(in alloc;
-                "{asked} {after:?} {limit:?} {tries} {steps:?} {among:?}{others} {input:?}"
-            )
+            format!(in alloc; "{asked} {listing} {input:?}")
         }
         Err(Usage::Bad) => String::from_str(alloc, "bad"),
         Err(Usage::Show(text)) => Ok(text),

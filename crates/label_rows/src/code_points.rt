@@ -1,36 +1,37 @@
 //! What a code point is to a label: its class, and the facts that say which tests a label needs.
 use idn_class::{Class, Fact, Facts, Properties, class_of, class_of_by};
 
-/// The seven rows from U+01F0 on take memory, and succeed too.
+/// Code points and their classes. The seven rows from U+01F0 on take memory, and succeed too.
+const CLASSES: [(u32, Class); 20] = [
+    (0x61, Class::Pvalid),
+    (0x41, Class::Disallowed),
+    (0xDF, Class::Pvalid),
+    (0xB7, Class::Contexto),
+    (0x200C, Class::Contextj),
+    (0x301, Class::Pvalid),
+    (0x640, Class::Disallowed),
+    (0x5_0000, Class::Unassigned),
+    (0xFDD0, Class::Disallowed),
+    (0x80, Class::Disallowed),
+    (0xD800, Class::Disallowed),
+    (0x11_0000, Class::Disallowed),
+    (u32::MAX, Class::Disallowed),
+    // ǰ, ẖ, ẗ, and the alpha with perispomeni: RFC 5892, appendix B.1, has them as PVALID.
+    (0x1F0, Class::Pvalid),
+    (0x1E96, Class::Pvalid),
+    (0x1E97, Class::Pvalid),
+    (0x1FB6, Class::Pvalid),
+    // İ and the alpha with psili and ypogegrammeni: the same appendix has them as DISALLOWED.
+    (0x130, Class::Disallowed),
+    (0x1F80, Class::Disallowed),
+    // A vowel sign that the quick checks leave open, younger than the appendix.
+    (0x1_6121, Class::Pvalid),
+];
+
 #[test]
 fn classes(rt: HostRuntime) {
-    let rows = [
-        (0x61, Class::Pvalid),
-        (0x41, Class::Disallowed),
-        (0xDF, Class::Pvalid),
-        (0xB7, Class::Contexto),
-        (0x200C, Class::Contextj),
-        (0x301, Class::Pvalid),
-        (0x640, Class::Disallowed),
-        (0x5_0000, Class::Unassigned),
-        (0xFDD0, Class::Disallowed),
-        (0x80, Class::Disallowed),
-        (0xD800, Class::Disallowed),
-        (0x11_0000, Class::Disallowed),
-        (u32::MAX, Class::Disallowed),
-        // ǰ, ẖ, ẗ, and the alpha with perispomeni: RFC 5892, appendix B.1, has them as PVALID.
-        (0x1F0, Class::Pvalid),
-        (0x1E96, Class::Pvalid),
-        (0x1E97, Class::Pvalid),
-        (0x1FB6, Class::Pvalid),
-        // İ and the alpha with psili and ypogegrammeni: the same appendix has them as DISALLOWED.
-        (0x130, Class::Disallowed),
-        (0x1F80, Class::Disallowed),
-        // A vowel sign that the quick checks leave open, younger than the appendix.
-        (0x1_6121, Class::Pvalid),
-    ];
-    for (c, class) in rows {
-        assert_eq!(rt; class_of(rt.alloc(), c), Ok(class), "U+{c:04X}");
+    for (c, class) in CLASSES.iter() {
+        assert_eq!(rt; class_of(rt.alloc(), *c), Ok(*class), "U+{c:04X}");
     }
 }
 

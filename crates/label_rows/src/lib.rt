@@ -20,5 +20,3 @@ mod reading;
 mod registration;
 #[cfg(test)]
 mod utf8;
-#[cfg(test)]
-mod zone_labels;

@@ -8,20 +8,20 @@ use std::process::Abort;
 use std::test::Fail;
 
 /// Labels with their A-labels or their first faults.
-const CASES: [(&str, Result<&str, Refusal>); 6] = [
-    ("faß", Ok("xn--fa-hia")),
-    ("xn--fa-hia", Ok("xn--fa-hia")),
-    ("abc", Ok("abc")),
-    ("भ\u{93E}रत", Ok("xn--h2brj9c")),
-    ("a\u{200C}b", Err(Refusal::ContextJ)),
-    ("xn--abc-", Err(Refusal::BadALabel)),
-];
-
-/// The same by Unicode.
-const BY_UNICODE: [(&str, Result<&str, Refusal>); 3] = [
-    ("\u{1E922}", Ok("xn--9d6h")),
-    ("\u{712}\u{200C}\u{712}", Ok("xn--cnba592q")),
-    ("\u{5D0}\u{CBF}", Err(Refusal::Bidi)),
+const CASES: [(&str, Properties, Result<&str, Refusal>); 9] = [
+    ("faß", Properties::Profile, Ok("xn--fa-hia")),
+    ("xn--fa-hia", Properties::Profile, Ok("xn--fa-hia")),
+    ("abc", Properties::Profile, Ok("abc")),
+    ("भ\u{93E}रत", Properties::Profile, Ok("xn--h2brj9c")),
+    ("a\u{200C}b", Properties::Profile, Err(Refusal::ContextJ)),
+    ("xn--abc-", Properties::Profile, Err(Refusal::BadALabel)),
+    ("\u{1E922}", Properties::Unicode, Ok("xn--9d6h")),
+    (
+        "\u{712}\u{200C}\u{712}",
+        Properties::Unicode,
+        Ok("xn--cnba592q"),
+    ),
+    ("\u{5D0}\u{CBF}", Properties::Unicode, Err(Refusal::Bidi)),
 ];
 
 /// Tests a label as it stands, and asserts the answer; one that may be registered is encoded without a test, too.
@@ -46,39 +46,22 @@ fn registers(
     rt: &impl Abort,
     alloc: Global,
     label: &str,
+    properties: Properties,
     expected: Result<&str, Refusal>,
 ) -> Result<(), Fail> {
     let points = points_of(label)?;
-    let registered = register(alloc, &points);
-    assert_eq!(rt; told(&registered), expected, "{label}");
-    Ok(())
-}
-
-/// The same by Unicode.
-fn registers_by_unicode(
-    rt: &impl Abort,
-    alloc: Global,
-    label: &str,
-    expected: Result<&str, Refusal>,
-) -> Result<(), Fail> {
-    let points = points_of(label)?;
-    let registered = register_by(alloc, &points, Properties::Unicode);
+    let registered = match properties {
+        Properties::Profile => register(alloc, &points),
+        Properties::Unicode => register_by(alloc, &points, properties),
+    };
     assert_eq!(rt; told(&registered), expected, "{label}");
     Ok(())
 }
 
 #[test]
 fn labels_are_registered_or_refused(rt: HostRuntime) -> Result<(), Fail> {
-    for (label, expected) in CASES.iter() {
-        registers(&rt, rt.alloc(), label, *expected)?;
-    }
-    Ok(())
-}
-
-#[test]
-fn labels_are_registered_or_refused_by_unicode(rt: HostRuntime) -> Result<(), Fail> {
-    for (label, expected) in BY_UNICODE.iter() {
-        registers_by_unicode(&rt, rt.alloc(), label, *expected)?;
+    for (label, properties, expected) in CASES.iter() {
+        registers(&rt, rt.alloc(), label, *properties, *expected)?;
     }
     Ok(())
 }

@@ -7,17 +7,9 @@ mod candidates;
 #[cfg(test)]
 mod collisions;
 #[cfg(test)]
-mod definitions;
-#[cfg(test)]
-mod fault_places;
-#[cfg(test)]
 mod fault_texts;
 #[cfg(test)]
-mod near;
-#[cfg(test)]
 mod nets;
-#[cfg(test)]
-mod readings;
 #[cfg(test)]
 mod spelled;
 #[cfg(test)]

@@ -4,7 +4,7 @@ ghost use Rattle.idn_text.specs.Points.{AreScalarValues};
 
 use std::alloc::{AllocError, Global};
 use std::test::Fail;
-use variant_list::{Net, NetFault};
+use variant_list::{Net, NetFault, ReversedFault};
 use variant_table::{Notation, Table};
 
 /// a and aa for each other.
@@ -69,7 +69,15 @@ fn edges_and_shortest_labels(rt: HostRuntime) -> Result<(), Fail> {
 
 #[test]
 fn texts_of_faults(rt: HostRuntime) -> Result<(), Fail> {
-    let text = format!(in rt.alloc(); "{}, {}", NetFault::NothingSpelled, NetFault::Memory)?;
-    assert_eq!(&rt; text.as_str(), "nothing spelled, out of memory");
+    let text = format!(in rt.alloc();
+        "{}, {}, {}",
+        NetFault::NothingSpelled,
+        NetFault::Memory,
+        ReversedFault::TooManySources { entry: 0 }
+    )?;
+    assert_eq!(&rt;
+        text.as_str(),
+        "nothing spelled, out of memory, too many sources"
+    );
     Ok(())
 }
