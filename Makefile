@@ -2,7 +2,7 @@
 RT ?= rt
 PROGRAM := crates/idn2/out/idn2
 # Says that the program is proved as its sources stood: it has the time at which the proof began.
-PROVED := crates/idn2/out/proved
+PROVED := out/proved
 SOURCES := crates.txt crates/*/src crates/*/specs crates/*/proofs
 PREFIX ?= /usr/local
 # The name under which the program is installed. libidn2 has a program of the name idn2, too.
@@ -14,26 +14,24 @@ DIST ?= dist
 # As many crates side by side as there are processors, and 3 GB of free memory for each.
 LANES ?= $(shell awk -v processors="$$(nproc)" '/MemAvailable/ { lanes = int($$2 / 3000000) } \
     END { print (lanes < 1 ? 1 : lanes < processors ? lanes : processors) }' /proc/meminfo)
-# How many crates are handed out at once, with as much memory for each. Most of them wait for crates below: no more than four
-# are ever proved at a time, and with fewer at once a processor waits, too.
-JOBS ?= $(shell awk '/MemAvailable/ { jobs = int($$2 / 3000000) } END { print (jobs < 1 ? 1 : jobs < 8 ? jobs : 8) }' /proc/meminfo)
+# Whether the program is there, and nothing has changed since its proof began.
+PROGRAM_IS_PROVED = test -x $(PROGRAM) && changed=$$(find $(SOURCES) -cnewer $(PROVED) 2> /dev/null) && test -z "$$changed"
 
 .PHONY: all run test packages test-crate wrong-bodies install program-name dist check-tables bench conformance evaluator fuzz \
     class-table changed-answers clean
 
-# Proves every function that the program uses, the first time with several crates at once, and builds and tries the program.
-# The program comes last: with its libraries there, rt doesn't read it once more beforehand.
+# Proves every function, and builds and tries the program: all of it, with the laws, as the gate does, and what passed is kept on
+# the machine for the gate and for later runs. One job for each crate: a second one for the same crate takes a third more processor
+# time, and saves a tenth by the clock.
 all:
-	@mkdir -p $(dir $(PROVED)) && touch $(PROVED).begun
-	test -x $(PROGRAM) || for crate in idn2_cli idn2; do (cd crates/$$crate && $(RT) all test --jobs $(JOBS)) || exit 1; done
-	cd crates/idn2 && $(RT) run < stdin > /dev/null
-	@mv $(PROVED).begun $(PROVED)
+	@$(PROGRAM_IS_PROVED) || { mkdir -p $(dir $(PROVED)) && touch $(PROVED).begun && \
+	    RT_JOBS=$(LANES) $(RT) ci && mv $(PROVED).begun $(PROVED); }
 
 # The main job, the variants of a label under a table, in about a minute: by the program, if nothing has changed since its
 # proof began, else by a build without any proof, which isn't kept.
 run:
 	@echo 'idn2 --variants tables/german.txt strasse'
-	@if test -x $(PROGRAM) && changed=$$(find $(SOURCES) -cnewer $(PROVED) 2> /dev/null) && test -z "$$changed"; then \
+	@if $(PROGRAM_IS_PROVED); then \
 	    $(PROGRAM) --variants tables/german.txt strasse && echo proved; \
 	else \
 	    echo 'builds without a proof, for about a minute' >&2; \
@@ -64,7 +62,7 @@ test-crate:
 
 # The mutants that the gate leaves out, of all crates or of those that CRATES names.
 wrong-bodies:
-	cd crates/idn2_cli && $(RT) all check --jobs $(JOBS)
+	cd crates/idn2_cli && $(RT) all check --jobs $(LANES)
 	RT=$(RT) LANES=$(LANES) IS_PROVED=1 python3 tests/planted.py wrong-bodies $(CRATES)
 
 # The program, its manual page, its completions for bash, zsh and fish, and its tables, below $(DESTDIR)$(PREFIX), each under

@@ -620,15 +620,14 @@ def runs_the_main_job_without_a_proof_until_make_has_made_it(folder):
     asked, built, source = (os.path.join(crate, name) for name in ("asked", "out/idn2", "src/main.rt"))
     for name in ("src", "specs", "proofs"):
         os.makedirs(os.path.join(crate, name))
-    os.makedirs(os.path.join(folder, "crates", "idn2_cli", "out"))
     for path in (source, os.path.join(folder, "crates.txt"), os.path.join(crate, "stdin")):
         open(path, "w").close()
     os.symlink(TABLES, os.path.join(folder, "tables"))
     rt = os.path.join(folder, "rt")
     with open(rt, "w", encoding="utf-8") as file:
-        file.write("#!/bin/sh\n[ -e fails ] && exit 1\necho \"$*\" >> asked\n[ $1 = try ] && echo tried && exit\n"
+        file.write(f"#!/bin/sh\ncd '{crate}' && [ ! -e fails ] || exit\necho \"$*\" >> asked\n[ $1 = try ] && echo tried && exit\n"
                    "[ -e edits ] && sleep 0.1 && echo edited >> src/main.rt\n"
-                   "echo '#!/bin/sh\necho listed' > out/idn2 && chmod +x out/idn2\n")
+                   "mkdir -p out && echo '#!/bin/sh\necho listed' > out/idn2 && chmod +x out/idn2\n")
     os.chmod(rt, 0o755)
 
     def ask(target):
@@ -660,7 +659,7 @@ def runs_the_main_job_without_a_proof_until_make_has_made_it(folder):
     for case, change in changes.items():
         assert ask("all")[1] == 0
         os.remove(asked)
-        assert ask("run") == (["listed", "proved"], 0) and not os.path.exists(asked), case
+        assert ask("run") == (["listed", "proved"], 0) and ask("all") == ([], 0) and not os.path.exists(asked), case
         change()
         expect_unproved(case)
     os.mkdir(os.path.join(crate, "specs"))

@@ -131,6 +131,7 @@ def keeps_a_green_run_and_no_red_one(folder):
         write(folder, "tests", name, text=PASSING)
     for name in ("gate", "green.py"):
         shutil.copy(os.path.join(ROOT, "tests", name), os.path.join(folder, "tests"))
+    shutil.copy(os.path.join(ROOT, "Makefile"), folder)
     write(folder, "tests", "program.py", text=f"ROOT = {folder!r}\n" + PASSING)
     write(folder, "crates", "idn2", "out", "empty")
     write(folder, "rt", text=RT)
