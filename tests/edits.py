@@ -16,14 +16,15 @@ from program import ROOT, run_tests
 
 FOLDERS = ("must-fail", "planted", "wrong-bodies")
 BREAKS = re.compile(r"breaks: (\w+), (?:clause (\w+)|its clause)(?:: (.+))?")
-# The type of an impl: after `for` if it is one of a trait.
-IMPL = re.compile(r"^impl\b(?:<.*?> )?(?:.* for )?&?\s*(\w+)")
+# The trait of an impl, if it is of one, and its type; or a trait, whose methods may have bodies.
+IMPL = re.compile(r"^impl\b(?:<.*?>)? (?:(.*) for )?&?\s*(\w+)")
+TRAIT = re.compile(r"^(?:pub(?:\(\w+\))? )?trait (\w+)")
 HEAD = re.compile(r"^( *)(?:pub(?:\(\w+\))? )?(?:final )?(?:const )?(?:unsafe )?fn (\w+)")
 
 # What an edit says that it breaks: a function, its clause, which may have no name, and perhaps an input at which it does.
 Said = collections.namedtuple("Said", "function clause example")
-# The body of a function, with the type of its impl.
-Body = collections.namedtuple("Body", "file owner function first last")
+# The body of a function, with the type of its impl, and the trait of that.
+Body = collections.namedtuple("Body", "file owner trait function first last")
 
 
 def text_of(path):
@@ -66,10 +67,12 @@ def fault_of(crate, edit):
 def bodies_of(file, text):
     """Each function of a file that has a body, by the layout that rt fmt makes."""
     lines = text.split("\n")
-    owner = ""
+    owner = trait = ""
     for first, line in enumerate(lines):
         if owns := IMPL.match(line):
-            owner = owns[1]
+            trait, owner = owns[1] or "", owns[2]
+        elif owns := TRAIT.match(line):
+            trait, owner = "", owns[1]
         head = HEAD.match(line)
         if not head:
             continue
@@ -78,7 +81,7 @@ def bodies_of(file, text):
         top = next(row for row in range(first, -1, -1) if row == 0 or not lines[row - 1].strip())
         for last in range(first, len(lines)):
             if lines[last] == end:
-                yield Body(file, owner if head[1] else "", head[2], top + 1, last + 1)
+                yield Body(file, owner if head[1] else "", trait if head[1] else "", head[2], top + 1, last + 1)
                 break
             if lines[last].endswith(";") and not any(row.endswith("{") for row in lines[first:last + 1]):
                 break  # a declaration

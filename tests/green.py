@@ -22,7 +22,7 @@ from program import ROOT
 RECORD = os.path.join(ROOT, "out", "green.json")
 PARTS = ("src", "specs", "proofs", "planted")
 # What decides whether an edit is refused, besides the crates and the kit.
-SCRIPTS = ("planted.py", "edits.py", "layers.py", "green.py")
+SCRIPTS = ("planted.py", "holes.py", "edits.py", "layers.py", "green.py")
 
 
 @functools.cache

@@ -2,22 +2,19 @@
 """Tries mutants, many in one check: python3 tests/planted.py FOLDER [CRATE..], with FOLDER must-fail, planted or wrong-bodies;
 --all for the crates are all of them, as is none, and --changed those that aren't as in the last green run of the gate.
 
-Each edit below crates/*/FOLDER must be refused at a goal of a function that it edits. To read a crate costs more than to
-prove a function again, so edits of different functions are planted in one copy of the crate and checked at once. All that
-one function knows of another is its contract, so no body is refused for what is planted in another one. An edit that has no
-refusal of its own there is tried again with the others of which that is true: a function isn't checked that calls one that
-isn't proved. If none of them has one, fewer are tried, and at last one. What edits anything but bodies, as a constant, is
-tried by itself.
+Each edit below crates/*/FOLDER must be refused at a goal of a function that it edits. All that one function knows of another
+is its contract. So edits of different functions are planted in one copy of the crate and checked at once, and all other
+functions are taken by their contracts (tests/holes.py). An edit that has no refusal of its own there is tried again with the
+others of which that is true: a function isn't checked that calls one that isn't proved. If none of them has one, fewer are
+tried, and at last one. What edits anything but bodies, as a constant, is tried by itself, and the whole crate with it.
 
 What refuses an edit is told after it: a goal in the code; or a proof that was written for the right code and no longer
-serves, which says less of the contract. An edit has failed, too, where this names clauses of a function and
-none is that of its first line. An edit that is refused only since a proof names what it takes away says little: of wrong-bodies
-it counts as a failure; the gate tells it and goes on, as rt does for must-fail, and so where something else refuses the crate.
-One that is proved and one that doesn't compile are failures everywhere.
+serves, which says less of the contract. An edit has failed that is proved, that doesn't compile, or that is refused only since a
+proof names what it takes away; and where the refusal names clauses of a function and none is that of the edit's first line.
 
 A crate has to be proved as it stands: by rt check, unless IS_PROVED says that it was. Each check is made over the libraries
-that this left in out/, and begins with what rt check kept there, if it did, and then with what the check before it left. LANES
-is how many crates are tried side by side. What the edits of a crate took of the processor is told after them. The last line is
+that this left in out/, and begins with what rt check kept there, if it did, and then with what the check before it left. Before
+the edits of wrong-bodies the functions themselves are checked with such holes, and must be proved. LANES is how many crates are tried side by side. What the edits of a crate took of the processor is told after them. The last line is
 'N passed, M failed', and the exit status is 0 where nothing failed."""
 
 import collections
@@ -33,6 +30,7 @@ import tempfile
 
 import green
 from edits import bodies_changed, replacements, said_of, text_of
+from holes import leave_to_contracts, paths_of
 from layers import crates, reach
 from program import ROOT
 
@@ -43,8 +41,6 @@ MOST = int(os.environ.get("MOST", "32"))
 IS_PROVED = bool(os.environ.get("IS_PROVED"))
 # The kit, whose first page rt names.
 KIT = os.path.dirname(subprocess.run([os.environ.get("RT", "rt"), "doc"], stdout=subprocess.PIPE, encoding="utf-8", check=True).stdout.strip())
-# Whether a refusal by a name alone is a failure: before a release, but not in the gate.
-STRICT = sys.argv[1:2] == ["wrong-bodies"]
 
 GOAL = re.compile(r"^(?:note: )?(?:\./)?(src/\S+?):(\d+):\d+: (?:error: )?(.*)")
 PROOF = re.compile(r"^(?:\./)?(proofs/\S+?)(?:/\w+)?\.antt:\d+:\d+: error: (.*)")
@@ -56,20 +52,27 @@ RETURNS = re.compile(r"`returns(?:[^`]*-clause-(\w+))?[^`]*`")
 UNTRIED = re.compile(r"has not tried the goals of `(?:\w+::)*(\w+)`")
 UNREADABLE = re.compile(r"\berror\[[\w-]+\]")
 
-# Its replacements, the bodies that it edits, none where it edits anything else, and what it says that it breaks.
-Edit = collections.namedtuple("Edit", "name pairs bodies said")
+# A function that is proved, if its callees are.
+STANDS = re.compile(r"^fn \w+::(\S+): (?:no holes|depends on a hole|proved)")
+
+# Its replacements, the bodies that it edits, none where it edits anything else, what it says that it breaks, and the paths of
+# these functions, none where one of them has none.
+Edit = collections.namedtuple("Edit", "name pairs bodies said paths", defaults=[frozenset()])
 
 
 def read_edit(crate, path):
+    folder = os.path.join(CRATES, crate)
     pairs = list(replacements(path))
-    return Edit(os.path.basename(path), pairs, bodies_changed(os.path.join(CRATES, crate), pairs), said_of(path))
+    bodies = bodies_changed(folder, pairs)
+    paths = paths_of(bodies, folder)
+    return Edit(os.path.basename(path), pairs, bodies, said_of(path), paths)
 
 
 def batch_of(edits, most):
-    """The edits to be tried next: the first, and others of other bodies, up to so many. One of no body comes last, alone."""
+    """The edits to be tried next: the first, and others of other bodies, up to so many. One without a path comes last, alone."""
     batch = []
-    for edit in sorted(edits, key=lambda edit: not edit.bodies):
-        if not batch or edit.bodies and len(batch) < most and not any(edit.bodies & other.bodies for other in batch):
+    for edit in sorted(edits, key=lambda edit: not edit.paths):
+        if not batch or edit.paths and len(batch) < most and not any(edit.bodies & other.bodies for other in batch):
             batch.append(edit)
     return batch
 
@@ -119,9 +122,6 @@ class Copy:
         self.work = os.path.join(self.folder, "incremental")
         self.command = [*command, "--incremental", self.work]
         self.seconds = 0.0
-        for part in ("src", "specs", "proofs"):
-            if os.path.isdir(os.path.join(CRATES, crate, part)):
-                shutil.copytree(os.path.join(CRATES, crate, part), os.path.join(self.folder, part))
         kept = os.path.join(CRATES, crate, "out", "incremental")
         if os.path.isdir(kept):
             shutil.copytree(kept, self.work, copy_function=link_or_copy)
@@ -135,26 +135,27 @@ class Copy:
         shutil.rmtree(self.folder, ignore_errors=True)
 
     def check(self, edits):
-        """What the check of the crate with these edits says: its status and its lines."""
-        texts = {}
-        for edit in edits:
-            for file, old, new in edit.pairs:
-                texts[file] = (texts.get(file) or text_of(os.path.join(CRATES, self.crate, file))).replace(old, new)
-        for file, text in texts.items():
-            self.write(file, text)
-        with subprocess.Popen(self.command, cwd=self.folder, stdin=subprocess.DEVNULL,
+        """What the check of the crate with these edits says: its status and its lines. Where they change bodies alone, it is asked
+        about these, and takes all other functions by their contracts."""
+        for part in ("src", "specs", "proofs"):
+            shutil.rmtree(os.path.join(self.folder, part), ignore_errors=True)
+            if os.path.isdir(os.path.join(CRATES, self.crate, part)):
+                shutil.copytree(os.path.join(CRATES, self.crate, part), os.path.join(self.folder, part))
+        for file, old, new in (pair for edit in edits for pair in edit.pairs):
+            text = text_of(os.path.join(self.folder, file)).replace(old, new)
+            with open(os.path.join(self.folder, file), "w", encoding="utf-8") as it:
+                it.write(text)
+        command, paths = self.command, frozenset().union(*(edit.paths for edit in edits))
+        if paths:
+            leave_to_contracts(self.crate, self.folder, paths)
+            command = [*command, "--allow-holes", *(word for path in sorted(paths) for word in ("--only", path.replace("/", "::")))]
+        with subprocess.Popen(command, cwd=self.folder, stdin=subprocess.DEVNULL,
                               stdout=subprocess.PIPE, stderr=subprocess.STDOUT, encoding="utf-8", errors="replace") as ran:
             said = ran.stdout.read()
             _, status, used = os.wait4(ran.pid, 0)
             ran.returncode = os.waitstatus_to_exitcode(status)
         self.seconds += used.ru_utime + used.ru_stime
-        for file in texts:
-            self.write(file, text_of(os.path.join(CRATES, self.crate, file)))
         return ran.returncode, said.splitlines()
-
-    def write(self, file, text):
-        with open(os.path.join(self.folder, file), "w", encoding="utf-8") as it:
-            it.write(text)
 
 
 def is_of(body, folder, said):
@@ -213,6 +214,11 @@ def unlike_its_line(edit, lines):
     return f"breaks {edit.said.function}, {name(edit.said.clause)}, it says, but it is refused at {', '.join(map(name, sorted(told)))}"
 
 
+def standing(lines):
+    """The paths of the functions that a check says are proved, if those that they call are."""
+    return {line[1].replace("::", "/") for line in map(STANDS.match, lines) if line}
+
+
 def verdicts(copy, batch):
     """{the name of an edit: whether it is refused, what is said of it} for the edits of a batch that have a refusal of their own
     there; for one that is alone in any case."""
@@ -220,23 +226,30 @@ def verdicts(copy, batch):
     unread = next((line for line in lines if UNREADABLE.search(line)), None)
     found = {}
     for edit in batch:
-        refusal = None if status == 0 or unread else refusal_of(edit, lines)
+        is_proved = status == 0 or edit.paths and edit.paths <= standing(lines)
+        refusal = None if is_proved or unread else refusal_of(edit, lines)
         named = None if unread else next(proofs_of(edit, lines), None)
         if refusal:
             wrong = unlike_its_line(edit, lines)
             found[edit.name] = not wrong, wrong or refusal
+        elif is_proved:
+            found[edit.name] = False, "NOT REFUSED: what it edits is still proved"
         elif len(batch) > 1 and not named:
             continue
-        elif status == 0:
-            found[edit.name] = False, "NOT REFUSED: the crate is still proved"
         elif unread:
             found[edit.name] = False, f"it doesn't compile: {unread[:160]}"
         else:
             # what the prover says of code that it can't take, if it does
             told = next((line for line in lines if ": no proof: " in line), lines[-1] if lines else "")
-            is_refused = not STRICT and any(line.startswith("logic=not-proved") for line in lines)
-            found[edit.name] = is_refused, f"refused by a name alone: {': '.join(named)[:160]}" if named else f"no verdict: {told[:300]}"
+            found[edit.name] = False, f"refused by a name alone: {': '.join(named)[:160]}" if named else f"no verdict: {told[:300]}"
     return found
+
+
+def refused_as_they_stand(copy, edits):
+    """The functions that edits change and a check with holes refuses without these, in which case it tells nothing of them."""
+    paths = frozenset().union(*(edit.paths for edit in edits))
+    _, lines = copy.check([Edit("none", [], frozenset(), None, paths)])
+    return sorted(paths - standing(lines))
 
 
 def try_crate(crate, folder):
@@ -249,6 +262,9 @@ def try_crate(crate, folder):
     passed = checks = 0
     most = MOST
     with Copy(crate, command) as copy:
+        if folder == "wrong-bodies" and (refused := refused_as_they_stand(copy, edits)):
+            print(f"planted {crate}: NOT TRIED, since with holes for the others these aren't proved: {', '.join(refused)}", flush=True)
+            return 0, len(edits)
         while left:
             batch = batch_of(left, most)
             found = verdicts(copy, batch)

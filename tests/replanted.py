@@ -1,7 +1,7 @@
 #!/usr/bin/env python3
-"""Tests in which crates the gate plants mutants by hand: in those that aren't as in its last green run; and how the first
-line of an edit is compared with the checker's report. The last line is 'N passed, M failed', and the exit status is 0 where
-nothing failed."""
+"""Tests in which crates the gate plants mutants by hand: in those that aren't as in its last green run; which functions are
+taken by their contracts then; and how the first line of an edit is compared with the checker's report. The last line is
+'N passed, M failed', and the exit status is 0 where nothing failed."""
 
 import json
 import os
@@ -12,6 +12,7 @@ import sys
 
 from edits import Body, Said
 from green import PARTS, SCRIPTS, changed, digests, keep, recorded
+from holes import leave_to_contracts
 from planted import Edit, unlike_its_line
 from program import ROOT, run_tests
 
@@ -127,7 +128,7 @@ def keeps_a_green_run_and_no_red_one(folder):
     """The gate itself, with nothing to prove and nothing to test."""
     record = os.path.join(folder, "out", "green.json")
     scripts = gate_scripts()
-    for name in scripts:
+    for name in {*scripts, *SCRIPTS}:
         write(folder, "tests", name, text=PASSING)
     for name in ("gate", "green.py"):
         shutil.copy(os.path.join(ROOT, "tests", name), os.path.join(folder, "tests"))
@@ -189,7 +190,7 @@ COMPARED = [
 
 
 def compares_first_lines_with_the_report(folder):
-    bodies = frozenset([Body("src/a.rt", "", "f", 10, 20), Body("src/a.rt", "", "g", 30, 40)])
+    bodies = frozenset([Body("src/a.rt", "", "", "f", 10, 20), Body("src/a.rt", "", "", "g", 30, 40)])
     for said, lines, agree in COMPARED:
         told = unlike_its_line(Edit("f-changed.edit", [], bodies, said), lines)
         assert (told is None) == agree, (said, lines, told)
@@ -197,7 +198,65 @@ def compares_first_lines_with_the_report(folder):
     assert told is None, told
 
 
+# A crate, and what is left of it where all functions but `asked` are taken by their contracts.
+WHOLE = """\
+pub struct Count {
+    now: u32,
+}
+
+impl Count {
+    /// Twice.
+    pub fn twice(&self) -> u32
+        ensures { result ≡ 2 * self.now }
+    {
+        let now = self.now;
+        now + now
+    }
+
+    const fn none() -> u32 {
+        0
+    }
+}
+
+impl Next for Count {
+    fn next(&mut self) -> Option<u32> {
+        asked(self.now)
+    }
+}
+
+impl From<u32> for Count {
+    fn from(now: u32) -> Count {
+        Count { now }
+    }
+}
+
+fn asked(n: u32) -> Option<u32> {
+    depth(n)
+}
+
+fn depth(n: u32) -> Option<u32> {
+    depth(n.checked_sub(1)?)
+}
+"""
+LEFT = WHOLE.replace("        let now = self.now;\n        now + now\n", "loop {}\n\n").replace("        asked(self.now)\n", "loop {}\n")
+OPEN = ["a/Count/twice", "a/CountNext/next"]
+
+
+def takes_all_other_functions_by_their_contracts(folder):
+    """But what calls itself, a constant function, and a method of a trait with parameters. Each goal keeps its line."""
+    write(folder, "src", "a.rt", text=WHOLE)
+    write(folder, "proofs", "a", "Count", "twice", "Answers.antt")
+    leave_to_contracts("low", folder, {"a/asked"})
+    with open(os.path.join(folder, "src", "a.rt"), encoding="utf-8") as file:
+        assert file.read() == LEFT
+    left = [os.path.relpath(os.path.join(path, name), os.path.join(folder, "proofs")) for path, _, names in os.walk(folder) for name in names]
+    assert sorted(name for name in left if name.endswith(".antt")) == [f"{path}/Proof.antt" for path in OPEN], left
+    with open(os.path.join(folder, "proofs", OPEN[0], "Proof.antt"), encoding="utf-8") as file:
+        assert file.read().startswith("use Rattle.low.proofs.a.Count.twice.Statement.{statement}\n\npub twice_spec : ")
+
+
 TESTS = [
+    takes_all_other_functions_by_their_contracts,
     compares_first_lines_with_the_report,
     plants_nowhere_if_nothing_changed,
     plants_in_what_changed_and_above,
