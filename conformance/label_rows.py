@@ -20,16 +20,23 @@ LENGTH = "21 name or label length"
 FAULTS = {DISALLOWED, UNASSIGNED, NOT_NFC, HYPHEN, LEADING_MARK, JOINER, CONTEXT, BIDI, TOO_LONG, NO_A_LABEL, NOT_VALID,
           LENGTH}
 
-# The samples of RFC 3492, section 7.1, that are labels of this profile: B, C, E to G, I, O, Q and R, with I in lower case.
-# A and S hold symbols, H is too long, and the others hold capital letters.
+# The samples of RFC 3492, section 7.1, that are labels of this profile: B to G and I to R, in lower case. H is too long, S is in
+# ASCII, and A ends in a symbol: it stands among the old labels.
 OF_RFC_3492 = [
     ("他们为什么不说中文", "xn--ihqwcrb4cv8a8dqg056pqjye"), ("他們爲什麽不說中文", "xn--ihqwctvzc91f659drss3x8bo0yb"),
+    ("pročprostěnemluvíčesky", "xn--proprostnemluvesky-uyb24dma41a"),
     ("\u05DC\u05DE\u05D4\u05D4\u05DD\u05E4\u05E9\u05D5\u05D8\u05DC\u05D0\u05DE\u05D3\u05D1\u05E8\u05D9\u05DD\u05E2\u05D1\u05E8\u05D9\u05EA",
      "xn--4dbcagdahymbxekheh6e0a7fei0b"),
     ("यहल\u094Bगह\u093Fन\u094Dद\u0940क\u094Dय\u094B\u0902नह\u0940\u0902ब\u094Bलसकत\u0947ह\u0948\u0902",
      "xn--i1baa7eci9glrd9b2ae1bj0hfcgg6iyaf8o0a1dig0cd"),
     ("なぜみんな日本語を話してくれないのか", "xn--n8jok5ay5dzabd5bym9f0cm5685rrjetr6pdxa"),
-    ("почемужеонинеговорятпорусски", "xn--b1abfaaepdrnnbgefbadotcwatmq2g4l"), ("ひとつ屋根の下2", "xn--2-u9tlzr9756bt3uc0v"),
+    ("почемужеонинеговорятпорусски", "xn--b1abfaaepdrnnbgefbadotcwatmq2g4l"),
+    ("porquénopuedensimplementehablarenespañol", "xn--porqunopuedensimplementehablarenespaol-fmd56a"),
+    ("tạisaohọkhôngthểchỉnóitiếngviệt", "xn--tisaohkhngthchnitingvit-kjcr8268qyxafd2f1b9g"),
+    ("3年b組金八先生", "xn--3b-ww4c5e180e575a65lsy2b"),
+    ("安室奈美恵-with-super-monkeys", "xn---with-super-monkeys-pc58ag80a8qai00g7n9n"),
+    ("hello-another-way-それぞれの場所", "xn--hello-another-way--fc4qua05auwb3674vfr0b"),
+    ("ひとつ屋根の下2", "xn--2-u9tlzr9756bt3uc0v"), ("majiでkoiする5秒前", "xn--majikoi5-783gue6qz075azm5e"),
     ("パフィーdeルンバ", "xn--de-jg4avhby1noc0d"), ("そのスピードで", "xn--d9juau41awczczp"),
 ]
 
@@ -134,7 +141,11 @@ DECODED = [
     ("xn--q-xbb.de", "q\u0301.de"), ("xn--11b2f", "क\u093C"),
     # The prefix, with no Punycode of scalar values after it, or with that of ASCII alone.
     ("xn--", NO_A_LABEL), ("XN--.de", NO_A_LABEL), ("xn--abc-", NO_A_LABEL), ("a.XN--ABC-.de", NO_A_LABEL),
-    ("xn--99999999", NO_A_LABEL),
+    ("xn--99999999", NO_A_LABEL), ("xn---", NO_A_LABEL), ("xn--0", NO_A_LABEL), ("xn--zzzzzzzz", NO_A_LABEL),
+    ("xn--" + "9" * 32, NO_A_LABEL), ("xn--a_b", NO_A_LABEL),
+    # The ends of the scalar values: U+D7FF, U+D800, U+DFFF, U+E000, U+10FFFF and one more (RFC 3492, section 6.2).
+    ("xn--hb9b", UNASSIGNED), ("xn--ib9b", NO_A_LABEL), ("xn--zy0c", NO_A_LABEL), ("xn--0y0c", DISALLOWED),
+    ("xn--dn32g", DISALLOWED), ("xn--en32g", NO_A_LABEL),
     # Past ASCII after the prefix, and letters whose last eight bits are those of a letter of ASCII.
     ("xn--š", NO_A_LABEL), ("xn--fa-hiš.de", NO_A_LABEL), ("a.XN--FA-HIš", NO_A_LABEL),
     # What is decoded is not registrable; the first such label decides.
@@ -142,6 +153,16 @@ DECODED = [
     ("xn--l2b4b", NOT_NFC), ("xn--" + "a" * 56 + "-lqe", TOO_LONG),
     # Other labels stay, however long they are, and the longest A-label is decoded.
     ("Faß..A_b.", "Faß..A_b."), ("a" * 64 + ".de", "a" * 64 + ".de"), ("xn--" + "a" * 55 + "-une", "a" * 55 + "ß"),
+]
+
+# Names of old labels, and what they stand for: sample A of RFC 3492, section 7.1; the ends of the scalar values, also three times
+# the last one; and names that stand for themselves, since what would be decoded of them are no scalar values.
+OLD = [
+    ("xn--egbpdaj6bu4bxfgehfvwxn",
+     "\u0644\u064A\u0647\u0645\u0627\u0628\u062A\u0643\u0644\u0645\u0648\u0634\u0639\u0631\u0628\u064A\u061F\told"),
+    ("xn--hb9b", "\uD7FF\told"), ("xn--0y0c", "\uE000\told"), ("xn--dn32g", "\U0010FFFF\told"),
+    ("xn--dn32gaa", "\U0010FFFF\U0010FFFF\U0010FFFF\told"), ("xn--ib9b", "xn--ib9b\told"), ("xn--zy0c", "xn--zy0c\told"),
+    ("xn--en32g", "xn--en32g\told"),
 ]
 
 # Names for which the ASCII rules make no difference, and what lookup answers.
@@ -189,6 +210,7 @@ def rows():
     yield in_one_run(["-d"], DECODED + [(a_label, label) for label, a_label in labels])
     yield in_one_run(["-r", "--standard"], REGISTERED + labels + [(a_label, a_label) for _, a_label in labels])
     yield in_one_run(["--standard", "-d"], DECODED + [(a_label, label) for label, a_label in labels])
+    yield in_one_run(["-d", "--old"], OLD)
     for mode, lines in (("-r", BY_EITHER), ("-d", NAMES_BY_EITHER)):
         yield in_one_run([mode], [(line, answer) for line, answer, _ in lines])
         yield in_one_run([mode, "--standard"], [(line, answer) for line, _, answer in lines])

@@ -1,6 +1,8 @@
 """Worked rows of whole runs: labels, names, lines, listings, tables and rulesets, and what a run must print, worked out by hand
 from the standards. The file of the table is `t`."""
 
+import string
+
 SHARP_S = "0061\n0065\n0072\n0073\n0074\n0073-0073|00DF\n00DF|0073-0073\n"
 DOUBLED = "0061|0061-0061\n"
 HYPHENS = "0061|002D\n"
@@ -123,6 +125,64 @@ LINES = [
     # empty line.
     (["-r"], "", "a" * 1024 + "\n" + "a" * 1024 + "\r\n\r\n",
      "", refused((1, "18 label too long"), (2, "2 line too long"), (3, "3 empty")), 1),
+    # NUL and a carriage return within a line stay, and so does one of two at its end. One at the end of the input is dropped.
+    (["-d"], "", "aa\r\r\n\na\rb\na\0b\n\0\naa\r",
+     "aa\r\na\rb\na\0b\n\0\naa\n", refused((2, "3 empty")), 1),
+    # Each end of an empty line.
+    (["-d"], "", "\n\r\n\r",
+     "", refused((1, "3 empty"), (2, "3 empty"), (3, "3 empty")), 1),
+]
+
+# Lines, by how many letters each has and by its end. A line has at most 1,024 bytes, a carriage return at its end counted.
+BY_LENGTH = [
+    [(1023, "\n"), (1024, "\n"), (1025, "\n"), (1022, "\r\n"), (1023, "\r\n"), (1024, "\r\n"), (5000, "\n"), (40000, "\n"),
+     (3, "\n")],
+    [(1024, "")], [(1025, "")], [(1023, "\r")], [(1024, "\r")],
+]
+# The same after 15 lines of 1,024 bytes, at the end of the 16,384 bytes that are read at once.
+ACROSS_READS = [
+    # A line feed is the last byte of a read, the last but one, and the first of the next.
+    [(1022, "\n"), (3, "\n")], [(1023, "\n"), (3, "\n")], [(1024, "\n"), (3, "\n")],
+    # A carriage return is the last byte, and so is the line feed after one.
+    [(1023, "\r\n"), (3, "\n")], [(1022, "\r\n"), (3, "\n")],
+    # Lines that are as long as may be begin just before the end of a read, and longer ones.
+    [(1000, "\n"), (1024, "\n"), (3, "\n")], [(1022, "\n"), (1024, "\n"), (3, "\n")], [(1000, "\n"), (1025, "\n"), (3, "\n")],
+    [(1000, "\n"), (1024, "\r\n"), (3, "\n")], [(1000, "\n"), (40000, "\n"), (3, "\n")],
+    # The last line has no line feed.
+    [(1023, "\n"), (3, "")], [(1022, "\n"), (3, "\r")], [(1000, "\n"), (1024, "")],
+    # Lines are empty.
+    [(1022, "\n"), (0, "\n"), (0, "\r\n"), (3, "\n")],
+]
+
+
+def of_lines(lines):
+    """The input of these lines, each of a letter of its own, and what decoding must print of it: output, messages, status."""
+    given, output, faults = "", "", []
+    for number, (letter, (count, end)) in enumerate(zip(string.ascii_lowercase, lines), 1):
+        given += letter * count + end
+        if count + len(end.removesuffix("\n")) > 1024:
+            faults.append((number, "2 line too long"))
+        elif count == 0:
+            faults.append((number, "3 empty"))
+        else:
+            output += letter * count + "\n"
+    return given, (output, refused(*faults), 1 if faults else 0)
+
+
+# The words of a command line, in any order, with a value in the same word or in the next one. The input isn't read.
+WORDS = [
+    (["-N", "--quiet", "faß"], "", "xn--fa-hia\n", "", 0),
+    (["-l", "--usestd3asciirules", "a_b"], "", "", refused((1, "20 not a valid name")), 1),
+    (["b", "--decode", "-", "--", "-c"], "", "b\n-\n-c\n", "", 0),
+    (["--variants=t", "-N", "aa", "--usestd3asciirules", "", "--quiet"], DOUBLED,
+     AA, refused((2, "3 empty")), 1),
+    (["aa", "--tries=0000000001", *LIST], DOUBLED, "aa\taa\n#stop 1 aa\n", "", 0),
+    # The greatest numbers, and more digits than a number needs.
+    ([*LIST, "--limit=1000000000", "--tries=1000000000", "--steps=1000000000000000000", "aa"], DOUBLED, AA, "", 0),
+    ([*LIST, "--limit", "0000000001", "--steps", "0000000000000000003", "aa"], DOUBLED, "aa\taa\n#stop 1 aa\n", "", 0),
+    # A start without a code point, and a hyphen.
+    ([*LIST, "--after", "", "aa"], DOUBLED, AA, "", 0),
+    ([*LIST, "--after", "-", "aa"], DOUBLED, AA, "", 0),
 ]
 
 # Whole listings, and labels that have none.
@@ -426,6 +486,11 @@ def rows():
         yield words, given, {"t": table}, (output, messages, status)
     for words, table, label, given, output, messages, status in AMONG:
         yield [*LIST, "--among", "r", *words], given, {"t": table, "r": label + "\n"}, (output, messages, status)
+    for lines in [*BY_LENGTH, *([(1023, "\n")] * 15 + lines for lines in ACROSS_READS)]:
+        given, wanted = of_lines(lines)
+        yield ["-d"], given, {}, wanted
+    for words, table, *wanted in WORDS:
+        yield words, "not read\n", {"t": table}, tuple(wanted)
     for count in (1, 99):
         yield ["-r", *["a"] * count], "not read\n", {}, ("a\n" * count, "", 0)
     for words, output in MODES:

@@ -1,25 +1,15 @@
 //! What no run can show of the messages of one that ends early: a file of registered labels that is too long, and the
 //! texts of the errors of streams.
+use crate::options::options_of;
 use idn_text::hostile::StopWriter;
 use idn_text::{Device, ReadFault, Refusal, WriteFault};
-use idn2_options::{Options, read_options};
 use idn2_refusals::refuse_registered;
-use std::alloc::Global;
 use std::test::Fail;
 
-/// The options of a run that tells causes.
-fn explaining(alloc: Global) -> Result<Options, Fail> {
-    let mut words = Vec::new(alloc);
-    for word in ["idn2", "-r", "--explain"] {
-        words.push(String::from_str(alloc, word)?)?;
-    }
-    Ok(read_options(alloc, &words)?)
-}
-
-/// The fault of a line after so many others that they fill 4 GiB.
+/// The fault of a line after so many others that they fill 4 GiB, in a run that tells causes.
 #[test]
 fn registered_labels_that_are_too_long(rt: HostRuntime) -> Result<(), Fail> {
-    let options = explaining(rt.alloc())?;
+    let options = options_of(rt.alloc(), "idn2|-r|--explain")?;
     let (mut room, mut answers) = ([0; 128], [0; 128]);
     let mut messages = Device::new(StopWriter::new(&mut room, 128));
     let mut output = Device::new(StopWriter::new(&mut answers, 128));
