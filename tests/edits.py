@@ -83,8 +83,8 @@ def bodies_of(file, text):
             if lines[last] == end:
                 yield Body(file, owner if head[1] else "", trait if head[1] else "", head[2], top + 1, last + 1)
                 break
-            if lines[last].endswith(";") and not any(row.endswith("{") for row in lines[first:last + 1]):
-                break  # a declaration
+            if lines[last] == head[1] + "{}" or lines[last].endswith(";") and not any(row.endswith("{") for row in lines[first:last + 1]):
+                break  # an empty body, or a declaration
 
 
 def bodies_changed(crate, pairs):
