@@ -61,8 +61,7 @@ test-crate:
 	for rows in label_rows table_rows idn2_rows; do (cd crates/$$rows && $(RT) try --test) || exit 1; done
 
 # The mutants that the gate leaves out, of all crates or of those that CRATES names.
-wrong-bodies:
-	cd crates/idn2_cli && $(RT) all check --jobs $(LANES)
+wrong-bodies: all
 	RT=$(RT) LANES=$(LANES) IS_PROVED=1 python3 tests/planted.py wrong-bodies $(CRATES)
 
 # The program, its manual page, its completions for bash, zsh and fish, and its tables, below $(DESTDIR)$(PREFIX), each under

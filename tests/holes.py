@@ -51,10 +51,10 @@ def path_of(body, types):
 
 
 def paths_of(bodies, folder):
-    """The paths of functions of a crate; none where one of them has none."""
+    """The path of each of these functions of a crate; none at all where one of them has none."""
     types = modules(sources(folder))
-    paths = {path_of(body, types) for body in bodies}
-    return frozenset() if None in paths else frozenset(paths)
+    paths = {body: path_of(body, types) for body in bodies}
+    return {} if None in paths.values() else paths
 
 
 def inner_of(body, lines):

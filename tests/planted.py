@@ -6,20 +6,21 @@ Each edit below crates/*/FOLDER must be refused at a goal of a function that it 
 is its contract. So edits of different functions are planted in one copy of the crate and checked at once, and all other
 functions are taken by their contracts (tests/holes.py). An edit that has no refusal of its own there is tried again with the
 others of which that is true: a function isn't checked that calls one that isn't proved. If none of them has one, fewer are
-tried, and at last one. What edits anything but bodies, as a constant, is tried by itself, and the whole crate with it.
+tried, and at last one. What edits anything but bodies, as a constant, or one that has no path there, is tried by itself, and the
+whole crate with it.
 
 What refuses an edit is told after it: a goal in the code; or a proof that was written for the right code and no longer
 serves, which says less of the contract. An edit has failed that is proved, that doesn't compile, or that is refused only since a
 proof names what it takes away; and where the refusal names clauses of a function and none is that of the edit's first line.
 
 A crate has to be proved as it stands: by rt check, unless IS_PROVED says that it was. Each check is made over the libraries
-that this left in out/, and begins with what rt check kept there, if it did, and then with what the check before it left. Before
-the edits of wrong-bodies the functions themselves are checked with such holes, and must be proved. LANES is how many crates are tried side by side. What the edits of a crate took of the processor is told after them. The last line is
-'N passed, M failed', and the exit status is 0 where nothing failed."""
+that this left in out/, and begins with what the check before it left. Before the edits of wrong-bodies, and of the
+crate that has the fewest, the functions that they edit are checked as they stand, with holes for the others, and must be proved.
+LANES is how many crates are tried side by side. What the edits of a crate took of the processor is told after them. The last line
+is 'N passed, M failed', and the exit status is 0 where nothing failed."""
 
 import collections
 import concurrent.futures
-import contextlib
 import glob
 import os
 import re
@@ -30,7 +31,7 @@ import tempfile
 
 import green
 from edits import bodies_changed, replacements, said_of, text_of
-from holes import leave_to_contracts, paths_of
+from holes import leave_to_contracts, paths_of, sources
 from layers import crates, reach
 from program import ROOT
 
@@ -52,29 +53,42 @@ RETURNS = re.compile(r"`returns(?:[^`]*-clause-(\w+))?[^`]*`")
 UNTRIED = re.compile(r"has not tried the goals of `(?:\w+::)*(\w+)`")
 UNREADABLE = re.compile(r"\berror\[[\w-]+\]")
 
-# A function that is proved, if its callees are.
-STANDS = re.compile(r"^fn \w+::(\S+): (?:no holes|depends on a hole|proved)")
+# What is told of a function: that it is proved if its callees are, or that it isn't.
+TOLD = re.compile(r"^fn \w+::(\S+): (no holes|depends on a hole|not proved|no proof)")
 
 # Its replacements, the bodies that it edits, none where it edits anything else, what it says that it breaks, and the paths of
-# these functions, none where one of them has none.
-Edit = collections.namedtuple("Edit", "name pairs bodies said paths", defaults=[frozenset()])
+# these bodies, none where one of them has none.
+Edit = collections.namedtuple("Edit", "name pairs bodies said paths")
 
 
 def read_edit(crate, path):
     folder = os.path.join(CRATES, crate)
     pairs = list(replacements(path))
     bodies = bodies_changed(folder, pairs)
-    paths = paths_of(bodies, folder)
-    return Edit(os.path.basename(path), pairs, bodies, said_of(path), paths)
+    return Edit(os.path.basename(path), pairs, bodies, said_of(path), paths_of(bodies, folder))
 
 
-def batch_of(edits, most):
-    """The edits to be tried next: the first, and others of other bodies, up to so many. One without a path comes last, alone."""
-    batch = []
+def with_edit(texts, edit):
+    """These files with an edit in them; None where what it replaces doesn't stand there exactly once."""
+    texts = dict(texts)
+    for file, old, new in edit.pairs:
+        if texts[file].count(old) != 1:
+            return None
+        texts[file] = texts[file].replace(old, new)
+    return texts
+
+
+def batch_of(edits, most, texts):
+    """The edits to be tried next, and the files with these in them: the first, and others of other bodies, up to so many, of which
+    none replaces what another one wrote. One without paths comes last, alone."""
+    batch, bodies = [], frozenset()
     for edit in sorted(edits, key=lambda edit: not edit.paths):
-        if not batch or edit.paths and len(batch) < most and not any(edit.bodies & other.bodies for other in batch):
+        fits = not batch or edit.paths and len(batch) < most and not edit.bodies & bodies
+        if fits and (together := with_edit(texts, edit)):
+            texts, bodies = together, bodies | edit.bodies
             batch.append(edit)
-    return batch
+    assert batch, "none can be applied: python3 tests/edits.py"
+    return batch, texts
 
 
 def libraries():
@@ -105,28 +119,16 @@ def is_proved(crate):
     return IS_PROVED or subprocess.run(words, cwd=os.path.join(CRATES, crate), stdout=subprocess.DEVNULL).returncode == 0
 
 
-def link_or_copy(source, target):
-    """A check replaces a module's file that it kept, and changes none, so these are linked, where the folders are of one disk."""
-    if source.endswith(".oantt"):
-        with contextlib.suppress(OSError):
-            return os.link(source, target)
-    return shutil.copy2(source, target)
-
-
 class Copy:
     """A copy of a crate, in which edits are planted."""
 
     def __init__(self, crate, command):
         self.crate = crate
         self.folder = tempfile.mkdtemp(prefix="planted-")
-        self.work = os.path.join(self.folder, "incremental")
-        self.command = [*command, "--incremental", self.work]
+        kept = os.path.join(self.folder, "incremental")
+        os.mkdir(kept)
+        self.command = [*command, "--incremental", kept]
         self.seconds = 0.0
-        kept = os.path.join(CRATES, crate, "out", "incremental")
-        if os.path.isdir(kept):
-            shutil.copytree(kept, self.work, copy_function=link_or_copy)
-        else:
-            os.mkdir(self.work)
 
     def __enter__(self):
         return self
@@ -134,18 +136,17 @@ class Copy:
     def __exit__(self, *_):
         shutil.rmtree(self.folder, ignore_errors=True)
 
-    def check(self, edits):
-        """What the check of the crate with these edits says: its status and its lines. Where they change bodies alone, it is asked
-        about these, and takes all other functions by their contracts."""
+    def check(self, texts, paths):
+        """What the check of the crate with these files says: its status and its lines. Where paths are given, it is asked about
+        these functions, and takes all others by their contracts."""
         for part in ("src", "specs", "proofs"):
             shutil.rmtree(os.path.join(self.folder, part), ignore_errors=True)
             if os.path.isdir(os.path.join(CRATES, self.crate, part)):
                 shutil.copytree(os.path.join(CRATES, self.crate, part), os.path.join(self.folder, part))
-        for file, old, new in (pair for edit in edits for pair in edit.pairs):
-            text = text_of(os.path.join(self.folder, file)).replace(old, new)
+        for file, text in texts.items():
             with open(os.path.join(self.folder, file), "w", encoding="utf-8") as it:
                 it.write(text)
-        command, paths = self.command, frozenset().union(*(edit.paths for edit in edits))
+        command = self.command
         if paths:
             leave_to_contracts(self.crate, self.folder, paths)
             command = [*command, "--allow-holes", *(word for path in sorted(paths) for word in ("--only", path.replace("/", "::")))]
@@ -158,14 +159,13 @@ class Copy:
         return ran.returncode, said.splitlines()
 
 
-def is_of(body, folder, said):
-    """Whether the proof of a body stands in this folder: its module, its type if it is a method, and its own name, with a plus
-    sign if it calls itself. The proof of a method stands in the module of its type, where that is another one. Functions that
-    call each other have one folder, and there the name of each is the first part of its goals."""
-    module = body.file.removeprefix("src/").removesuffix(".rt")
-    *path, function = folder.split("/")
-    is_named = function.removeprefix("+") == body.function or function.startswith("+") and said.startswith(f"`{body.function}-")
-    return is_named and (folder.startswith(f"proofs/{module}/") or (body.owner != "" and path[-1].startswith(body.owner)))
+def is_of(path, function, folder, said):
+    """Whether the proof of a function stands in this folder: that of its path, with a plus sign if it calls itself. Functions
+    that call each other have one folder, and there the name of each is the first part of its goals."""
+    module, _, cycle = folder.removeprefix("proofs/").partition("/+")
+    if not cycle:
+        return path == module
+    return path == f"{module}/{cycle}" or path.startswith(f"{module}/") and said.startswith(f"`{function}-")
 
 
 def goals_of(edit, lines):
@@ -187,10 +187,10 @@ def refusal_of(edit, lines):
 
 
 def proofs_of(edit, lines):
-    """What is said of proofs of a body that an edit changes; of all proofs, where it edits anything else."""
+    """What is said of proofs of a body that an edit changes; of all proofs, where one has no path or it edits anything else."""
     for line in lines:
         proof = PROOF.match(line)
-        if proof and (not edit.bodies or any(is_of(body, *proof.groups()) for body in edit.bodies)):
+        if proof and (not edit.paths or any(is_of(edit.paths[body], body.function, *proof.groups()) for body in edit.bodies)):
             yield proof.groups()
 
 
@@ -214,60 +214,69 @@ def unlike_its_line(edit, lines):
     return f"breaks {edit.said.function}, {name(edit.said.clause)}, it says, but it is refused at {', '.join(map(name, sorted(told)))}"
 
 
-def standing(lines):
-    """The paths of the functions that a check says are proved, if those that they call are."""
-    return {line[1].replace("::", "/") for line in map(STANDS.match, lines) if line}
+def told_of_functions(lines):
+    """What a check says of each function, by its path: that it `is proved`, if those that it calls are, or `is refused`."""
+    told = (line for line in map(TOLD.match, lines) if line)
+    return {line[1].replace("::", "/"): "is proved" if line[2] in ("no holes", "depends on a hole") else "is refused" for line in told}
 
 
-def verdicts(copy, batch):
+def told_of(edit, status, lines):
+    """The same of what an edit changes; None if it is neither."""
+    if not edit.paths:
+        return "is proved" if status == 0 else "is refused" if any(line.startswith("logic=not-proved") for line in lines) else None
+    told = {told_of_functions(lines).get(path) for path in edit.paths.values()}
+    return "is refused" if "is refused" in told else "is proved" if told == {"is proved"} else None
+
+
+def verdicts(copy, batch, texts):
     """{the name of an edit: whether it is refused, what is said of it} for the edits of a batch that have a refusal of their own
     there; for one that is alone in any case."""
-    status, lines = copy.check(batch)
+    status, lines = copy.check(texts, {path for edit in batch for path in edit.paths.values()})
     unread = next((line for line in lines if UNREADABLE.search(line)), None)
     found = {}
     for edit in batch:
-        is_proved = status == 0 or edit.paths and edit.paths <= standing(lines)
-        refusal = None if is_proved or unread else refusal_of(edit, lines)
-        named = None if unread else next(proofs_of(edit, lines), None)
+        told = None if unread else told_of(edit, status, lines)
+        refusal = refusal_of(edit, lines) if told == "is refused" else None
+        named = next(proofs_of(edit, lines), None) if told == "is refused" else None
         if refusal:
             wrong = unlike_its_line(edit, lines)
             found[edit.name] = not wrong, wrong or refusal
-        elif is_proved:
+        elif told == "is proved":
             found[edit.name] = False, "NOT REFUSED: what it edits is still proved"
-        elif len(batch) > 1 and not named:
-            continue
-        elif unread:
-            found[edit.name] = False, f"it doesn't compile: {unread[:160]}"
-        else:
+        elif named:
+            found[edit.name] = False, f"refused by a name alone: {', '.join(named)[:160]}"
+        elif len(batch) == 1:
             # what the prover says of code that it can't take, if it does
-            told = next((line for line in lines if ": no proof: " in line), lines[-1] if lines else "")
-            found[edit.name] = False, f"refused by a name alone: {': '.join(named)[:160]}" if named else f"no verdict: {told[:300]}"
+            last = next((line for line in lines if ": no proof: " in line), lines[-1] if lines else "")
+            found[edit.name] = False, f"it doesn't compile: {unread[:160]}" if unread else f"no verdict: {last[:300]}"
     return found
 
 
-def refused_as_they_stand(copy, edits):
-    """The functions that edits change and a check with holes refuses without these, in which case it tells nothing of them."""
-    paths = frozenset().union(*(edit.paths for edit in edits))
-    _, lines = copy.check([Edit("none", [], frozenset(), None, paths)])
-    return sorted(paths - standing(lines))
+def not_proved_as_they_stand(copy, texts, edits):
+    """The functions that edits change, and that a check with holes for the others doesn't prove without these: so it would tell
+    nothing of such an edit."""
+    paths = {path for edit in edits for path in edit.paths.values()}
+    told = told_of_functions(copy.check(texts, paths)[1])
+    return sorted(path for path in paths if told.get(path) != "is proved")
 
 
-def try_crate(crate, folder):
+def try_crate(crate, folder, is_controlled):
     """How many edits of a crate are refused, and how many are not."""
     edits = left = [read_edit(crate, path) for path in sorted(glob.glob(os.path.join(CRATES, crate, folder, "*.edit")))]
     command = check_of(crate, libraries()) if is_proved(crate) else None
     if not command:
         print(f"planted {crate}: NOT TRIED, since it isn't proved as it stands, or a library below it isn't built", flush=True)
         return 0, len(edits)
+    texts = sources(os.path.join(CRATES, crate))
     passed = checks = 0
     most = MOST
     with Copy(crate, command) as copy:
-        if folder == "wrong-bodies" and (refused := refused_as_they_stand(copy, edits)):
-            print(f"planted {crate}: NOT TRIED, since with holes for the others these aren't proved: {', '.join(refused)}", flush=True)
+        if is_controlled and (others := not_proved_as_they_stand(copy, texts, edits)):
+            print(f"planted {crate}: NOT TRIED, since with holes for the others these aren't proved: {', '.join(others)}", flush=True)
             return 0, len(edits)
         while left:
-            batch = batch_of(left, most)
-            found = verdicts(copy, batch)
+            batch, planted = batch_of(left, most, texts)
+            found = verdicts(copy, batch, planted)
             for name, (is_refused, said) in found.items():
                 passed += is_refused
                 print(f"planted {crate}/{name} ... {'ok' if is_refused else 'FAILED'}: {said}", flush=True)
@@ -289,7 +298,7 @@ def main():
     counts = {crate: len(glob.glob(os.path.join(CRATES, crate, folder, "*.edit"))) for crate in names}
     chosen = sorted((crate for crate in counts if counts[crate]), key=lambda crate: -counts[crate])
     with concurrent.futures.ThreadPoolExecutor(int(os.environ.get("LANES", "1"))) as lanes:
-        results = list(lanes.map(lambda crate: try_crate(crate, folder), chosen))
+        results = list(lanes.map(lambda crate: try_crate(crate, folder, folder == "wrong-bodies" or crate == chosen[-1]), chosen))
     passed, failed = (sum(column) for column in zip(*results)) if results else (0, 0)
     print(f"{passed} passed, {failed} failed")
     return 0 if not failed and (passed or only_changed) else 1

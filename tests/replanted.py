@@ -13,7 +13,7 @@ import sys
 from edits import Body, Said
 from green import PARTS, SCRIPTS, changed, digests, keep, recorded
 from holes import leave_to_contracts
-from planted import Edit, unlike_its_line
+from planted import Edit, batch_of, unlike_its_line, verdicts
 from program import ROOT, run_tests
 
 # Two crates, one above it, and one beside them.
@@ -189,13 +189,69 @@ COMPARED = [
 ]
 
 
+F, G = Body("src/a.rt", "", "", "f", 10, 20), Body("src/a.rt", "", "", "g", 30, 40)
+PATHS = {F: "a/f", G: "a/g"}
+
+
 def compares_first_lines_with_the_report(folder):
-    bodies = frozenset([Body("src/a.rt", "", "", "f", 10, 20), Body("src/a.rt", "", "", "g", 30, 40)])
     for said, lines, agree in COMPARED:
-        told = unlike_its_line(Edit("f-changed.edit", [], bodies, said), lines)
+        told = unlike_its_line(Edit("f-changed.edit", [], frozenset(PATHS), said, PATHS), lines)
         assert (told is None) == agree, (said, lines, told)
-    told = unlike_its_line(Edit("constant.edit", [], frozenset(), Said("f", "puts", None)), [NAMED])
+    told = unlike_its_line(Edit("constant.edit", [], frozenset(), Said("f", "puts", None), {}), [NAMED])
     assert told is None, told
+
+
+# What the checker says of f, and whether an edit of it is refused, by itself and beside one of g; None where it is tried again.
+PROVED = "fn low::a::f: depends on a hole in `Rattle.low.proofs.a.h.Proof.h_spec`"
+NOT_PROVED = "fn low::a::f: not proved; it stands on `Rattle.low.proofs.a.f.Answers.returns-clause-gets`, which antt refuses"
+NO_VERDICT = "fn low::a::f: could not tell"
+OF_A_NAMESAKE = SHAPE.replace("proofs/a/f", "proofs/a/Counts/f")
+DECIDED = [
+    (1, [NAMED, NOT_PROVED], True, True),
+    (1, [SHAPE, NOT_PROVED], True, True),
+    (0, [PROVED], False, False),
+    (1, [PROVED], False, False),
+    (1, [NAMED, PROVED], False, False),
+    (3, [NAMED, NO_VERDICT], False, None),
+    (1, [OF_A_NAMESAKE, NOT_PROVED], False, None),
+    (1, [NAMED, NOT_PROVED, "src/a.rt:1:1: error[unknown-name]: h"], False, None),
+    (2, [], False, None),
+]
+
+
+class Told:
+    """A copy of a crate of which the checker always says the same."""
+
+    def __init__(self, *said):
+        self.said = said
+
+    def check(self, texts, paths):
+        return self.said
+
+
+def takes_for_refused_what_the_checker_refuses_there(folder):
+    of_f = Edit("f-changed.edit", [], frozenset([F]), Said("f", "gets", "of 'a' it gives 'b'"), {F: PATHS[F]})
+    of_g = Edit("g-changed.edit", [], frozenset([G]), Said("g", "gets", None), {G: PATHS[G]})
+    for status, lines, alone, beside in DECIDED:
+        for batch, wanted in (([of_f], alone), ([of_f, of_g], beside)):
+            found = verdicts(Told(status, lines), batch, {})
+            assert found.get(of_f.name, (None,))[0] == wanted, (status, lines, found)
+
+
+def keeps_apart_edits_that_change_each_other(folder):
+    """Of one body, or where one replaces what another one wrote; and one of no body is alone."""
+    texts = {"src/a.rt": "there back one two"}
+    swapped = [Edit("f", [("src/a.rt", "there", "back")], frozenset([F]), None, {F: "a/f"}),
+               Edit("g", [("src/a.rt", "back", "there")], frozenset([G]), None, {G: "a/g"}),
+               Edit("f-too", [("src/a.rt", "one", "1")], frozenset([F]), None, {F: "a/f"})]
+    other = Edit("constant", [("src/a.rt", "one", "two")], frozenset(), None, {})
+    further = Edit("h", [("src/a.rt", "two", "2")], frozenset([F._replace(function="h")]), None, {F: "a/h"})
+    edits, batches = [other, *swapped, further], []
+    while edits:
+        batch, planted = batch_of(edits, 32, texts)
+        batches.append(([edit.name for edit in batch], planted["src/a.rt"]))
+        edits = [edit for edit in edits if edit not in batch]
+    assert batches == [(["f", "h"], "back back one 2"), (["g", "f-too"], "there there 1 two"), (["constant"], "there back two two")], batches
 
 
 # A crate, and what is left of it where all functions but `asked` are taken by their contracts.
@@ -256,6 +312,8 @@ def takes_all_other_functions_by_their_contracts(folder):
 
 
 TESTS = [
+    takes_for_refused_what_the_checker_refuses_there,
+    keeps_apart_edits_that_change_each_other,
     takes_all_other_functions_by_their_contracts,
     compares_first_lines_with_the_report,
     plants_nowhere_if_nothing_changed,
