@@ -143,7 +143,7 @@ DECODED = [
     ("xn--", NO_A_LABEL), ("XN--.de", NO_A_LABEL), ("xn--abc-", NO_A_LABEL), ("a.XN--ABC-.de", NO_A_LABEL),
     ("xn--99999999", NO_A_LABEL), ("xn---", NO_A_LABEL), ("xn--0", NO_A_LABEL), ("xn--zzzzzzzz", NO_A_LABEL),
     ("xn--" + "9" * 32, NO_A_LABEL), ("xn--a_b", NO_A_LABEL),
-    # The ends of the scalar values: U+D7FF, U+D800, U+DFFF, U+E000, U+10FFFF and one more (RFC 3492, section 6.2).
+    # The ends of the scalar values: U+D7FF, U+D800, U+DFFF, U+E000, U+10FFFF and one more.
     ("xn--hb9b", UNASSIGNED), ("xn--ib9b", NO_A_LABEL), ("xn--zy0c", NO_A_LABEL), ("xn--0y0c", DISALLOWED),
     ("xn--dn32g", DISALLOWED), ("xn--en32g", NO_A_LABEL),
     # Past ASCII after the prefix, and letters whose last eight bits are those of a letter of ASCII.

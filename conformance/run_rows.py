@@ -141,7 +141,7 @@ BY_LENGTH = [
 ]
 # The same after 15 lines of 1,024 bytes, at the end of the 16,384 bytes that are read at once.
 ACROSS_READS = [
-    # A line feed is the last byte of a read, the last but one, and the first of the next.
+    # A line feed is the last byte but one of a read, the last one, and the first of the next.
     [(1022, "\n"), (3, "\n")], [(1023, "\n"), (3, "\n")], [(1024, "\n"), (3, "\n")],
     # A carriage return is the last byte, and so is the line feed after one.
     [(1023, "\r\n"), (3, "\n")], [(1022, "\r\n"), (3, "\n")],
@@ -177,9 +177,10 @@ WORDS = [
     (["--variants=t", "-N", "aa", "--usestd3asciirules", "", "--quiet"], DOUBLED,
      AA, refused((2, "3 empty")), 1),
     (["aa", "--tries=0000000001", *LIST], DOUBLED, "aa\taa\n#stop 1 aa\n", "", 0),
-    # The greatest numbers, and more digits than a number needs.
+    # The greatest numbers, and as many digits as there may be.
     ([*LIST, "--limit=1000000000", "--tries=1000000000", "--steps=1000000000000000000", "aa"], DOUBLED, AA, "", 0),
-    ([*LIST, "--limit", "0000000001", "--steps", "0000000000000000003", "aa"], DOUBLED, "aa\taa\n#stop 1 aa\n", "", 0),
+    ([*LIST, "--limit", "0000000001", "aa"], DOUBLED, "aa\taa\n#stop 1 aa\n", "", 0),
+    ([*LIST, "--steps", "0000000000000000002", "aa"], DOUBLED, "aa\taa\naaa\taaa\n#stop 2 aaa\n", "", 0),
     # A start without a code point, and a hyphen.
     ([*LIST, "--after", "", "aa"], DOUBLED, AA, "", 0),
     ([*LIST, "--after", "-", "aa"], DOUBLED, AA, "", 0),

@@ -298,8 +298,8 @@ EDGES = bytes.fromhex("2e617f808e8f909fa0a3a4bfc0c1c2d5d6d7dfe0e1e2ecedeeeff0f4f
 
 
 def tells_each_short_text_that_is_utf8(folder):
-    """All texts of up to three such octets, and of four where the first begins one of four, alone and at the end of longer ones,
-    as Python decodes them."""
+    """All texts of up to three such octets, and of four from F0, F1, F4, F5 or F8 on, alone and at the end of longer ones, as
+    Python decodes them."""
     texts = [bytes(octets) for length in (1, 2, 3) for octets in itertools.product(EDGES, repeat=length)]
     texts += map(bytes, itertools.product(b"\xf0\xf1\xf4\xf5\xf8", EDGES, b"\x7f\x80\xbf\xc0", b"\x7f\x80\xbf\xc0"))
     for front in (b"", b"a" * 6, b"a" * 14):

@@ -1,4 +1,4 @@
-//! The greatest numbers that the words of a command line request. conformance/run_rows.py has runs with each option.
+//! The greatest numbers that the words of a command line request. conformance/ has runs with each option.
 use idn2_options::{Options, input_text, read_options};
 use std::alloc::Global;
 use std::test::Fail;
