@@ -34,8 +34,10 @@ pub mod DispositionLemmas
 pub mod BlockMembers
 -- The answer to a line that a call refused.
 pub mod RefusedLines
--- A listing under way: what it has written, and what is still to come.
+-- A block under way: where a search leads, and what is written.
 pub mod ListingProgress
+-- The next line of a block, by where a search leads.
+pub mod NextLines
 -- A line that begins with a label's UTF-8, cut or lengthened.
 pub mod CachedLineLemmas
 -- A listing that is kept to registered labels, step by step.

@@ -20,24 +20,15 @@ use Rattle.answer_json.specs.declared.block.Disposition.{Disposition}
 use Rattle.idn2_answers.specs.Said.{Said, BlockEnd}
 use Rattle.idn2_answers.specs.Listings.{Filter, nth, nth_if_given, lesser_label, up_to, variant_by, block_to}
 use Rattle.idn2_cli.specs.inner.Dispositions.{block_by}
-use Rattle.idn2_cli.proofs.BlockSteps.{get_if_given, limit_from, lines_to}
+use Rattle.idn2_cli.specs.inner.Progress.{IsWritable, from_here, from_here_if, rest_of_block, more_to, stop_from, variants_ahead}
 use Rattle.idn2_answers.proofs.FilterLemmas.{IsSound, accepted-short}
-use Rattle.idn2_cli.proofs.StopSteps.{IsAbove, from_here, from_here_if, stop_from, variants_ahead}
+use Rattle.idn2_cli.proofs.StopSteps.{IsAbove}
 use Rattle.variant_table.proofs.MemberLists.{all-members}
 
 -- ---- the block
 
-pub lines_to-none : (line : List ℕ → Said) (stop : Option (List ℕ)) (vs : List (List ℕ)) → block_to line stop vs ≡ lines_to line 0 stop vs
-lines_to-none line stop vs = ap (λ (n : ℕ). map line (up_to stop vs) ++ BlockEnd n stop ∷ []) (omega arith)
-
--- the block of these lists, by the places at which it may stop
-at_place : (vs : List (List ℕ)) (limit : Option ℕ) → IfSome limit IsCount → (place : Option ℕ) × (nth_if_given vs limit ≡ get_if_given vs place) × (limit ≡ limit_from 0 place)
-at_place vs None limits = (None, refl, refl)
-at_place vs (Some n) limits = (
-  Some (n - 1),
-  refl,
-  ap (λ (m : ℕ). let o : Option ℕ = Some m in o) (let same : n ≡ (0 + 1) + (n - 1) = omega (arith, limits.0) in same),
-)
+pub rest_of_block-none : (line : List ℕ → Said) (stop : Option (List ℕ)) (vs : List (List ℕ)) → block_to line stop vs ≡ rest_of_block line 0 stop vs
+rest_of_block-none line stop vs = ap (λ (n : ℕ). map line (up_to stop vs) ++ BlockEnd n stop ∷ []) (omega arith)
 
 -- the n-th of the labels to come
 nth-here : (last : List ℕ) (vs : List (List ℕ)) (n : ℕ) → 1 ≤ n → nth vs n ≡ from_here last vs n
@@ -51,45 +42,44 @@ nth-here_if last vs (Some n) bound = nth-here last vs n (omega (arith, bound.0))
 candidates-cut : (labels : List (List ℕ)) (after : List ℕ) → candidates_among labels after ≡ candidates_among labels (take 63 after)
 candidates-cut labels after = variants-cut fits_label fits_label-short labels after
 
--- the start of a listing: its block are the lines up to the stop that is seen from there
-pub record IsStart (f : Filter) (field : List ℕ → Option Disposition) (o : Settings) (p : Position) : Type 0 where
-  pub place : Option ℕ
-  pub limit : o.limit ≡ limit_from 0 place
-  pub block : block_by f field o p.net.spelled ≡ lines_to (variant_by field) 0 (stop_from f place p o.tries o.steps) (variants_ahead f p)
+-- how many may be listed at most
+limit-here : (last : List ℕ) (vs : List (List ℕ)) (limit : Option ℕ) → IfSome limit IsCount → nth_if_given vs limit ≡ from_here_if last vs (more_to limit 0)
+limit-here last vs None limits = refl
+limit-here last vs (Some n) limits = nth-here last vs n limits.0 ∙ ap (from_here last vs) (let same : n ≡ n - 0 = omega arith in same)
 
-pub block-start : (properties : Properties) (f : Filter) → IsSound properties f → (field : List ℕ → Option Disposition) (o : Settings) (net : Built) → IsWithinLimits o → IsStart f field o (record { net = net; last = take 63 o.after; edge_tests = 0 })
-block-start properties f sound field o net limits =
+-- where a listing starts, all of its block is still to come
+pub block-start : (properties : Properties) (f : Filter) → IsSound properties f → (field : List ℕ → Option Disposition) (o : Settings) (net : Built) → IsWithinLimits o → (p : Position) → p.net ≡ net → p.last ≡ take 63 o.after
+    → block_by f field o net.spelled ≡ rest_of_block (variant_by field) 0 (stop_from f p (more_to o.limit 0) o.tries o.steps) (variants_ahead f p)
+block-start properties f sound field o net limits p same_net same_last =
     let last : List ℕ = take 63 o.after in
+    let line : List ℕ → Said = variant_by field in
     let cs : List (List ℕ) = tested_among f.hopeless net.spelled last in
     let us : List (List ℕ) = visited f.hopeless None (candidates_among net.spelled last) in
-    let place = at_place (filter f.accepts cs) o.limit limits.limit in
-    let vs : variants_among f.accepts net.spelled o.after ≡ filter f.accepts cs =
+    let vs : List (List ℕ) = filter f.accepts cs in
+    let variants : variants_among f.accepts net.spelled o.after ≡ vs =
     accepted-tested f.accepts f.hopeless (accepted-short properties f sound) sound.for_good net.spelled o.after ∙ ap (filter f.accepts) (tested-cut f.hopeless net.spelled o.after) in
     let tries : nth (tested_among f.hopeless net.spelled o.after) o.tries ≡ from_here last cs o.tries =
     ap (λ (ds : List (List ℕ)). nth ds o.tries) (tested-cut f.hopeless net.spelled o.after) ∙ nth-here last cs o.tries limits.tries.0 in
     let steps : nth_if_given (visited f.hopeless None (candidates_among net.spelled o.after)) o.steps ≡ from_here_if last us o.steps =
     ap (λ (ds : List (List ℕ)). nth_if_given (visited f.hopeless None ds) o.steps) (candidates-cut net.spelled o.after) ∙ nth-here_if last us o.steps limits.steps in
-    record {
-      place = place.0;
-      limit = place.2;
-      block =
-          ap (λ (ds : List (List ℕ)). block_to (variant_by field) (lesser_label (nth_if_given ds o.limit) (lesser_label (nth (tested_among f.hopeless net.spelled o.after) o.tries) (nth_if_given (visited f.hopeless None (candidates_among net.spelled o.after)) o.steps))) ds) vs
-          ∙ ap (λ (t : Option (List ℕ)). block_to (variant_by field) (lesser_label (nth_if_given (filter f.accepts cs) o.limit) (lesser_label t (nth_if_given (visited f.hopeless None (candidates_among net.spelled o.after)) o.steps))) (filter f.accepts cs)) tries
-          ∙ ap (λ (s : Option (List ℕ)). block_to (variant_by field) (lesser_label (nth_if_given (filter f.accepts cs) o.limit) (lesser_label (from_here last cs o.tries) s)) (filter f.accepts cs)) steps
-          ∙ ap (λ (l : Option (List ℕ)). block_to (variant_by field) (lesser_label l (lesser_label (from_here last cs o.tries) (from_here_if last us o.steps))) (filter f.accepts cs)) place.1
-          ∙ lines_to-none (variant_by field) (lesser_label (get_if_given (filter f.accepts cs) place.0) (lesser_label (from_here last cs o.tries) (from_here_if last us o.steps))) (filter f.accepts cs);
-    }
+    ap (λ (ds : List (List ℕ)). block_to line (lesser_label (nth_if_given ds o.limit) (lesser_label (nth (tested_among f.hopeless net.spelled o.after) o.tries) (nth_if_given (visited f.hopeless None (candidates_among net.spelled o.after)) o.steps))) ds) variants
+    ∙ ap (λ (t : Option (List ℕ)). block_to line (lesser_label (nth_if_given vs o.limit) (lesser_label t (nth_if_given (visited f.hopeless None (candidates_among net.spelled o.after)) o.steps))) vs) tries
+    ∙ ap (λ (s : Option (List ℕ)). block_to line (lesser_label (nth_if_given vs o.limit) (lesser_label (from_here last cs o.tries) s)) vs) steps
+    ∙ ap (λ (l : Option (List ℕ)). block_to line (lesser_label l (lesser_label (from_here last cs o.tries) (from_here_if last us o.steps))) vs) (limit-here last vs o.limit limits.limit)
+    ∙ rest_of_block-none line (lesser_label (from_here_if last vs (more_to o.limit 0)) (lesser_label (from_here last cs o.tries) (from_here_if last us o.steps))) vs
+    ∙ sym (ap (λ (b : Built). at b last) same_net)
+    ∙ sym (ap (at p.net) same_last)
+  where
+    at : Built → List ℕ → List Said
+    at b last =
+        let q : Position = record { net = b; last = last; edge_tests = p.edge_tests } in
+        rest_of_block (variant_by field) 0 (stop_from f q (more_to o.limit 0) o.tries o.steps) (variants_ahead f q)
 
 -- the test of the labels that a listing tests
 abbrev fits_alive : Filter → List ℕ → Bool
 fits_alive f v = fits_label v && has_no_dead_prefix f.hopeless v
 
 -- ---- labels that a listing comes to can be written, and are above the last one
-
--- at most 63 code points, all scalar values
-pub record IsWritable (v : List ℕ) : Type 0 where
-  pub short : length v ≤ 63
-  pub scalar_values : AreScalarValues v
 
 -- a candidate can be written
 pub candidate-writable : (labels : List (List ℕ)) → All AreScalarValues labels → (v : List ℕ) → IsCandidate (Contains labels) v → IsWritable v

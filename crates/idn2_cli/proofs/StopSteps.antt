@@ -1,5 +1,5 @@
 -- The stop of a listing, as it is seen from where the cursor stands.
-use Rattle.std.proofs.Common.{◌≡◌, ◌<◌, ◌≤◌, ◌-◌, inl, inr, ℕ, zero, suc, List, [], ◌∷◌, Bool, true, false, Option, Some, None, IfSome, length, take, drop, refl, ap, ◌∙◌, if◌then◌else◌, arith}
+use Rattle.std.proofs.Common.{◌≡◌, ◌==◌, ◌<◌, ◌≤◌, ◌+◌, ◌-◌, inl, inr, ℕ, zero, suc, List, [], ◌∷◌, Bool, true, false, Option, Some, None, IfSome, length, take, drop, refl, ap, ◌∙◌, if◌then◌else◌, arith}
 use Rattle.std.specs.List.{AllByRecursion, filter, slice_get}
 use Rattle.variant_list.specs.Labels.{IsBelow}
 use Rattle.variant_list.specs.Jumps.{IsFrom}
@@ -7,19 +7,11 @@ use Rattle.variant_list.specs.Positions.{Position, tested_ahead}
 use Rattle.variant_list.specs.Steps.{last_of}
 use Rattle.variant_list.specs.Visited.{visited_ahead}
 use Rattle.idn2_answers.specs.Listings.{Filter, lesser_label}
-use Rattle.idn2_cli.proofs.BlockSteps.{get_if_given}
+use Rattle.idn2_cli.specs.inner.LineAnswers.{reaches}
+use Rattle.idn2_cli.specs.inner.Progress.{from_here, from_here_if, more_to, stop_from, variants_ahead}
 use Rattle.idn2_answers.proofs.LabelStops.{lesser_label-first, lesser_label-second, lesser_label-either, get-above, filter-above}
 
--- ---- the label to which so many more steps lead
-
--- the last label, if there is no more to be taken
-abbrev pub from_here : List ℕ → List (List ℕ) → ℕ → Option (List ℕ)
-from_here last vs zero = Some last
-from_here last vs (suc n) = slice_get vs n
-
-abbrev pub from_here_if : List ℕ → List (List ℕ) → Option ℕ → Option (List ℕ)
-from_here_if last vs None = None
-from_here_if last vs (Some n) = from_here last vs n
+-- ---- the label to which so many more lead
 
 first : (v : List ℕ) (vs : List (List ℕ)) (n : ℕ) → slice_get (v ∷ vs) n ≡ from_here v vs n
 first v vs zero = refl
@@ -57,43 +49,86 @@ from_here-past last vs (suc n) past = beyond vs n (omega (arith, past))
     beyond (v ∷ vs) zero l = absurd (omega (arith, l))
     beyond (v ∷ vs) (suc n) l = beyond vs n (omega (arith, l))
 
+-- ---- how many more may be listed
+
+-- there is one more, where they are bounded
+abbrev pub HasMore : Option ℕ → Type 0
+HasMore more = IfSome more (λ n. 0 < n)
+
+pub reached-none : (limit : Option ℕ) (count : ℕ) → reaches limit count ≡ true → more_to limit count ≡ Some 0
+reached-none None count is = let clash : false ≡ true = is in cc
+reached-none (Some n) count is = ap (λ (m : ℕ). let o : Option ℕ = Some m in o) (none n count is)
+  where
+    none : (n count : ℕ) → (n == count) ≡ true → n - count ≡ 0
+    none n count is = grind (arith, is)
+
+pub unreached-more : (limit : Option ℕ) (count : ℕ) → IfSome limit (λ n. count ≤ n) → reaches limit count ≡ false → HasMore (more_to limit count)
+unreached-more None count within going = tt
+unreached-more (Some n) count within going = some n count within going
+  where
+    some : (n count : ℕ) → count ≤ n → (n == count) ≡ false → 0 < n - count
+    some n count within going = grind (arith, within, going)
+
+pub more-within : (limit : Option ℕ) (count : ℕ) → HasMore (more_to limit count) → IfSome limit (λ n. count + 1 ≤ n)
+more-within None count more = tt
+more-within (Some n) count more = omega (arith, more)
+
+-- the first of those to come is taken
+pub more-first : (last v : List ℕ) (vs : List (List ℕ)) (limit : Option ℕ) (count : ℕ) → HasMore (more_to limit count)
+    → from_here_if last (v ∷ vs) (more_to limit count) ≡ from_here_if v vs (more_to limit (count + 1))
+more-first last v vs None count more = refl
+more-first last v vs (Some n) count more =
+    from_here-moved last (v ∷ vs) (n - count) 1 (omega (arith, more)) (omega arith)
+    ∙ ap (from_here v vs) (let same : n - count - 1 ≡ n - (count + 1) = omega arith in same)
+
+-- where one more may be taken, it is not asked what the last one is
+pub anywhere : (last other : List ℕ) (vs : List (List ℕ)) (n : ℕ) → 0 < n → from_here last vs n ≡ from_here other vs n
+anywhere last other vs zero some = absurd (omega (arith, some))
+anywhere last other vs (suc n) some = refl
+
+pub anywhere_if : (last other : List ℕ) (vs : List (List ℕ)) (more : Option ℕ) → HasMore more → from_here_if last vs more ≡ from_here_if other vs more
+anywhere_if last other vs None some = refl
+anywhere_if last other vs (Some n) some = anywhere last other vs n some
+
+pub none-there : (last : List ℕ) (more : Option ℕ) → HasMore more → from_here_if last [] more ≡ None
+none-there last None some = refl
+none-there last (Some n) some = from_here-past last [] n some
+
 -- ---- the stop
 
 module _ (f : Filter) where
-  -- the variants that are still to come
-  abbrev pub variants_ahead : Position → List (List ℕ)
-  variants_ahead p = filter f.accepts (tested_ahead f.hopeless p)
-
   -- the stop that tries and steps set
   abbrev pub bound_from : Position → ℕ → Option ℕ → Option (List ℕ)
   bound_from p tries steps = lesser_label (from_here p.last (tested_ahead f.hopeless p) tries) (from_here_if p.last (visited_ahead f.hopeless p) steps)
-
-  -- with the variant at a place of those to come, if there is a limit
-  abbrev pub stop_from : Option ℕ → Position → ℕ → Option ℕ → Option (List ℕ)
-  stop_from place p tries steps = lesser_label (get_if_given (variants_ahead p) place) (bound_from p tries steps)
 
   -- what is ahead of a cursor is above its last label
   pub record IsAbove (p : Position) : Type 0 where
     pub tested : AllByRecursion (IsBelow p.last) (tested_ahead f.hopeless p)
     pub visited : AllByRecursion (IsBelow p.last) (visited_ahead f.hopeless p)
 
+  pub variants-above : (p : Position) → IsAbove p → AllByRecursion (IsBelow p.last) (variants_ahead f p)
+  variants-above p above = filter-above f.accepts p.last (tested_ahead f.hopeless p) above.tested
+
   pub bound-from : (p : Position) (tries : ℕ) (steps : Option ℕ) → IsAbove p → IfSome (bound_from p tries steps) (IsFrom p.last)
   bound-from p tries steps above =
       lesser_label-either (IsFrom p.last) (from_here p.last (tested_ahead f.hopeless p) tries) (from_here_if p.last (visited_ahead f.hopeless p) steps)
       (from_here-from p.last (tested_ahead f.hopeless p) tries above.tested) (from_here_if-from p.last (visited_ahead f.hopeless p) steps above.visited)
 
-  place-from : (p : Position) (place : Option ℕ) → IsAbove p → IfSome (get_if_given (variants_ahead p) place) (IsFrom p.last)
-  place-from p None above = tt
-  place-from p (Some i) above = weaker (slice_get (variants_ahead p) i) (get-above p.last (variants_ahead p) i (filter-above f.accepts p.last (tested_ahead f.hopeless p) above.tested))
-    where
-      weaker : (r : Option (List ℕ)) → IfSome r (IsBelow p.last) → IfSome r (IsFrom p.last)
-      weaker None h = tt
-      weaker (Some b) h = inr h
+  variant-from : (p : Position) (more : Option ℕ) → IsAbove p → IfSome (from_here_if p.last (variants_ahead f p) more) (IsFrom p.last)
+  variant-from p more above = from_here_if-from p.last (variants_ahead f p) more (variants-above p above)
+
+  pub stop-from : (p : Position) (more : Option ℕ) (tries : ℕ) (steps : Option ℕ) → IsAbove p → IfSome (stop_from f p more tries steps) (IsFrom p.last)
+  stop-from p more tries steps above =
+      lesser_label-either (IsFrom p.last) (from_here_if p.last (variants_ahead f p) more) (bound_from p tries steps) (variant-from p more above) (bound-from p tries steps above)
 
   -- no try is left, or no step: the last label is the stop
-  pub stop-here : (place : Option ℕ) (p : Position) (tries : ℕ) (steps : Option ℕ) → IsAbove p → bound_from p tries steps ≡ Some p.last → stop_from place p tries steps ≡ Some p.last
-  stop-here place p tries steps above is =
-      ap (lesser_label (get_if_given (variants_ahead p) place)) is ∙ lesser_label-second p.last (get_if_given (variants_ahead p) place) (place-from p place above)
+  pub stop-here : (p : Position) (more : Option ℕ) (tries : ℕ) (steps : Option ℕ) → IsAbove p → bound_from p tries steps ≡ Some p.last → stop_from f p more tries steps ≡ Some p.last
+  stop-here p more tries steps above is =
+      ap (lesser_label (from_here_if p.last (variants_ahead f p) more)) is ∙ lesser_label-second p.last (from_here_if p.last (variants_ahead f p) more) (variant-from p more above)
+
+  -- and so it is where no more may be listed
+  pub stop-reached : (p : Position) (tries : ℕ) (steps : Option ℕ) → IsAbove p → stop_from f p (Some 0) tries steps ≡ Some p.last
+  stop-reached p tries steps above = lesser_label-first p.last (bound_from p tries steps) (bound-from p tries steps above)
 
   pub bound-spent : (p : Position) (steps : Option ℕ) → IsAbove p → bound_from p 0 steps ≡ Some p.last
   bound-spent p steps above = lesser_label-first p.last (from_here_if p.last (visited_ahead f.hopeless p) steps) (from_here_if-from p.last (visited_ahead f.hopeless p) steps above.visited)

@@ -1,6 +1,7 @@
 -- Words of inner functions and of private fields. No public contract cites them.
 pub mod LineAnswers
 pub mod Blocks
+pub mod Progress
 pub mod UnreadTables
 pub mod ServedModes
 pub mod Dispositions

@@ -20,8 +20,10 @@ mod listed;
 mod lookup;
 mod matched_rules;
 mod print_table;
+mod progress;
 mod register;
 mod search;
+mod variant_judge;
 mod variants;
 
 pub(crate) use admission::ruling_of_table;

@@ -5,7 +5,7 @@ use Rattle.answer_json.specs.Answers.{Answer}
 use Rattle.answer_json.specs.Inputs.{told_of}
 use Rattle.idn2_answers.specs.Answers.{LineAnswer}
 use Rattle.idn2_answers.specs.Said.{Said, said_object, said_text}
-use Rattle.idn2_output.specs.OutputLines.{OutputLine, Output}
+use Rattle.idn2_output.specs.OutputLines.{OutputLine, Output, outputs}
 use Rattle.idn2_cli.specs.inner.LineAnswers.{reply_output}
 use Rattle.idn2_cli.specs.declared.modes.asked.Asked.{Asked}
 
@@ -17,7 +17,10 @@ asked_line asked = record { number = asked.number; body = Some asked.text.now }
 abbrev pub said_to : Asked → Said → OutputLine
 said_to asked said = Output (said_text asked.form (asked_line asked) said)
 
--- the same as an object
+abbrev pub lines_to : Asked → List Said → List OutputLine
+lines_to asked lines = outputs (said_text asked.form (asked_line asked)) lines
+
+-- what is said, as an object
 abbrev pub object_to : Asked → Said → Answer
 object_to asked said = said_object asked.number (told_of (Some asked.text.now)) said
 

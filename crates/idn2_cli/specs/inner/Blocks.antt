@@ -12,11 +12,10 @@ use Rattle.variant_list.specs.declared.verdict.Verdict.{Verdict}
 use Rattle.variant_list.specs.declared.verdict.Verdict.TheVariants.{DeadPrefix, Accepted, NotAccepted}
 use Rattle.idn2_answers.specs.Dispositions.{disposition, is_left_out}
 use Rattle.idn2_answers.specs.Listings.{Filter, field_of}
-use Rattle.idn2_answers.specs.Said.{said_text}
-use Rattle.idn2_output.specs.OutputLines.{OutputLine, outputs}
+use Rattle.idn2_output.specs.OutputLines.{OutputLine}
 use Rattle.idn2_cli.specs.declared.modes.asked.Asked.{Asked}
-use Rattle.idn2_cli.specs.declared.modes.block.VariantJudge.{VariantJudge}
-use Rattle.idn2_cli.specs.inner.Asked.{asked_line}
+use Rattle.idn2_cli.specs.declared.modes.variant_judge.VariantJudge.{VariantJudge}
+use Rattle.idn2_cli.specs.inner.Asked.{lines_to}
 use Rattle.idn2_cli.specs.inner.CachedLines.{IsBegun}
 use Rattle.idn2_cli.specs.inner.Dispositions.{Listing, block_by}
 use Rattle.idn2_cli.specs.inner.Ruling.{KeepsOf, filter_for, ruling_in, ruling_of}
@@ -28,8 +27,7 @@ field_in o of v = field_of o of.table of.label v
 
 abbrev pub block_output : Asked → Option Testing → Listing → Settings → List (List ℕ) → List OutputLine
 block_output asked test of o labels =
-    outputs (said_text asked.form (asked_line asked))
-    (block_by (filter_for o.properties test of) (field_in o of) o labels)
+    lines_to asked (block_by (filter_for o.properties test of) (field_in o of) o labels)
 
 -- ---- the judge of a block's variants
 

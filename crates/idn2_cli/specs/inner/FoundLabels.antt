@@ -6,12 +6,9 @@ use Rattle.variant_table.specs.Entries.{TableValue}
 use Rattle.idn2_options.specs.Settings.{Settings}
 use Rattle.idn2_answers.specs.Collisions.{collision_by, named_if, regards_of}
 use Rattle.idn2_answers.specs.Listings.{is_registrable}
-use Rattle.idn2_answers.specs.Said.{Said, BlockEnd, said_text}
+use Rattle.idn2_answers.specs.Said.{Said, BlockEnd}
 use Rattle.idn2_answers.specs.Said as said
-use Rattle.idn2_output.specs.OutputLines.{OutputLine, outputs}
-use Rattle.idn2_cli.specs.declared.modes.asked.Asked.{Asked}
 use Rattle.idn2_cli.specs.declared.modes.collisions.Collision.{Collision}
-use Rattle.idn2_cli.specs.inner.Asked.{asked_line}
 use Rattle.idn2_cli.specs.inner.LineAnswers.{reaches}
 
 -- the registered label of the number
@@ -44,10 +41,6 @@ told_block o label registered found = named_if o.others label (found_block o.lim
 abbrev pub ending : Settings → List ℕ → List (List ℕ) → List Collision → List Said
 ending o label registered found =
     named_if o.others label (BlockEnd (length found) (stop_at o.limit registered found) ∷ [])
-
--- what is said in reply, as it is written
-abbrev pub lines_to : Asked → List Said → List OutputLine
-lines_to asked lines = outputs (said_text asked.form (asked_line asked)) lines
 
 -- ---- by what decides
 

@@ -4,7 +4,7 @@ use Rattle.variant_table.specs.Entries.{TableValue}
 use Rattle.idn2_options.specs.Settings.{Settings, keeping}
 use Rattle.idn2_answers.specs.Collisions.{IsGood, collision_block}
 use Rattle.idn2_output.specs.Writing.{Emits}
-use Rattle.idn2_cli.specs.inner.FoundLabels.{lines_to}
+use Rattle.idn2_cli.specs.inner.Asked.{lines_to}
 use Rattle.idn2_cli.proofs.RefusedLines.{answered_none, emits_answered, refused_is, replies_refusal}
 use Rattle.idn2_answers.proofs.AdmittedLabels.{admitted-made, admitted_answer, refused_answer, some-length}
 use Rattle.idn2_cli.proofs.modes.among.answer_label.Goals as goal

@@ -12,7 +12,8 @@ use Rattle.idn2_answers.specs.Said.{Said}
 use Rattle.idn2_output.specs.Writing.{Emits}
 use Rattle.idn2_output.proofs.WrittenOutputLines.{stops_first}
 use Rattle.idn2_cli.specs.declared.modes.collisions.Collision.{Collision}
-use Rattle.idn2_cli.specs.inner.FoundLabels.{collision_line_by, found_block, lines_from, lines_to, told_block}
+use Rattle.idn2_cli.specs.inner.Asked.{lines_to}
+use Rattle.idn2_cli.specs.inner.FoundLabels.{collision_line_by, found_block, lines_from, told_block}
 use Rattle.idn2_cli.proofs.CollisionSteps.{block-walked}
 use Rattle.idn2_cli.proofs.modes.collisions.write_collisions.Goals as goal
 

@@ -5,7 +5,8 @@ use Rattle.idn2_options.specs.Settings.{Settings}
 use Rattle.idn2_answers.specs.Said.{Said}
 use Rattle.idn2_output.specs.Writing.{Emits}
 use Rattle.idn2_cli.specs.declared.modes.collisions.Collision.{Collision}
-use Rattle.idn2_cli.specs.inner.FoundLabels.{ending, lines_to, said_of, told_block}
+use Rattle.idn2_cli.specs.inner.Asked.{lines_to}
+use Rattle.idn2_cli.specs.inner.FoundLabels.{ending, said_of, told_block}
 use Rattle.idn2_cli.proofs.CollisionSteps.{told-parts}
 use Rattle.idn2_cli.proofs.modes.collisions.write_found.Goals as goal
 

@@ -7,8 +7,8 @@ use Rattle.idn2_output.proofs.WrittenOutputLines.{writes_nothing, writes_join, s
 use Rattle.std.proofs.lemmas.List.{append-nil, drop_all}
 use Rattle.idn2_cli.specs.declared.modes.asked.Asked.{Asked}
 use Rattle.idn2_cli.specs.declared.modes.collisions.Collision.{Collision}
-use Rattle.idn2_cli.specs.inner.Asked.{said_to}
-use Rattle.idn2_cli.specs.inner.FoundLabels.{ending, lines_to, said_of, told_block}
+use Rattle.idn2_cli.specs.inner.Asked.{lines_to, said_to}
+use Rattle.idn2_cli.specs.inner.FoundLabels.{ending, said_of, told_block}
 use Rattle.idn2_cli.proofs.CollisionSteps.{told-parts}
 use Rattle.idn2_cli.proofs.ListingProgress.{emits_after}
 use Rattle.idn2_cli.proofs.modes.collisions.write_lines.Goals as goal

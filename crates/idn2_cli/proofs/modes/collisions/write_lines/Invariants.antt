@@ -1,7 +1,8 @@
 use Rattle.std.proofs.Common.{◌≡◌, ◌++◌, List, map, drop}
 use Rattle.idn2_output.specs.OutputLines.{OutputLine}
 use Rattle.idn2_output.specs.Writing.{Writes}
-use Rattle.idn2_cli.specs.inner.FoundLabels.{lines_to, said_of}
+use Rattle.idn2_cli.specs.inner.Asked.{lines_to}
+use Rattle.idn2_cli.specs.inner.FoundLabels.{said_of}
 use Rattle.idn2_cli.proofs.modes.collisions.write_lines.Given as goal
 
 -- the lines so far are written, and those of the other labels are to come

@@ -5,7 +5,7 @@ use Rattle.idn2_cli.specs.inner.Dispositions.{AreRulesOf}
 use Rattle.idn2_cli.specs.inner.Ruling.{matched_in}
 use Rattle.idn2_cli.proofs.AppearanceLemmas.{left_out-appears, listed-appears}
 use Rattle.idn2_cli.proofs.AskedRules.{seen-rules}
-use Rattle.idn2_cli.proofs.modes.block.VariantJudge.decided.Goals as goal
+use Rattle.idn2_cli.proofs.modes.variant_judge.VariantJudge.decided.Goals as goal
 
 pub appearance-requires-clause-rules : goal.appearance-requires-clause-rules
 appearance-requires-clause-rules c =

@@ -1,0 +1,25 @@
+use Rattle.std.proofs.Common.{◌≡◌}
+use Rattle.idn2_answers.specs.Listings.{variant_by}
+use Rattle.idn2_answers.specs.Said.{said_text}
+use Rattle.idn2_cli.specs.inner.Asked.{asked_line}
+use Rattle.idn2_cli.specs.inner.Blocks.{class_by, field_in}
+use Rattle.idn2_cli.specs.inner.Progress.{IsUnderWay, NeedsNoMore, lines_ahead}
+use Rattle.idn2_cli.proofs.ListingProgress.{IsWritten}
+use Rattle.idn2_cli.proofs.modes.block.write_lines.Given as goal
+
+-- what the block still says is all but what is written
+abbrev pub invariant-lines : goal.invariant-lines
+invariant-lines g l =
+    record {
+      under_way : IsUnderWay l.progress;
+      same_classes : class_by l.progress.judge.dispositions ≡ class_by l.fn.progress.judge.dispositions;
+      written : IsWritten (said_text l.asked.form (asked_line l.asked))
+          (lines_ahead (variant_by (field_in l.options l.fn.progress.judge.dispositions)) l.fn.progress)
+          (lines_ahead (variant_by (field_in l.options l.fn.progress.judge.dispositions)) l.progress)
+          l.fn.console
+          l.console;
+      no_more : NeedsNoMore l.fn.progress → NeedsNoMore l.progress;
+    }
+
+abbrev pub decreases-lines : goal.decreases-lines
+decreases-lines g l = l.progress.tries
