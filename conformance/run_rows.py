@@ -189,8 +189,21 @@ WORDS = [
 # Whole listings, and labels that have none.
 LISTED = [
     # A variant that replaces two code points; the variant b of a leads to no place from which ab goes on.
-    (LIST, "0061-0062|0063\n0061|0062\n", "ab\n",
-     "ab\tab\nc\tc\n#end 2\n", "", 0),
+    (LIST, "0061-0062|0063\n0061|0062\n", "ab\naba\n",
+     "ab\tab\nc\tc\n#end 2\naba\taba\nabb\tabb\nca\tca\ncb\tcb\n#end 4\n", "", 0),
+    # A variant that is longer than its source, wherever this stands.
+    (LIST, "0061-0061|0062-0063-0062\n0061\n", "aaaaa\n",
+     "".join(f"{label}\t{label}\n" for label in (
+         "aaaaa", "aaabcb", "aabcba", "abcbaa", "abcbbcb", "bcbaaa", "bcbabcb", "bcbbcba")) + "#end 8\n", "", 0),
+    # Sources of one, three and eight code points begin alike.
+    (LIST, "0064\n0062-0062-0062-0062-0062-0062-0062-0062|0065\n0062-0062-0063|0061\n0062\n0061\n", "bbbbbbbbb\nbbbc\n",
+     "bbbbbbbbb\tbbbbbbbbb\nbe\tbe\neb\teb\n#end 3\nba\tba\nbbbc\tbbbc\n#end 2\n", "", 0),
+    # No source is the first code point alone, or the first two.
+    (LIST, "0061-0062-0063\n0061-0063|0062\n0062\n", "abcac\n",
+     "abcac\tabcac\nabcb\tabcb\n#end 2\n", "", 0),
+    # The label ends before a source does that begins like it.
+    (LIST, "0061\n0061-0062-0063\n", "ab\nabc\n",
+     "abc\tabc\n#end 1\n", refused((1, "40 not made of table entries")), 1),
     # The sharp s and the double s are variants of each other: either label lists both.
     (LIST, SHARP_S, "strasse\nstraße\n",
      "strasse\tstrasse\nstraße\txn--strae-oqa\n#end 2\nstrasse\tstrasse\nstraße\txn--strae-oqa\n#end 2\n", "", 0),
@@ -321,6 +334,8 @@ CHECKED = [
     ("0063|0062\n0062|0061\n", "missing 0061|0062\nmissing 0062|0063\nmissing 0063|0061\n#table 2 3\n"),
     ("", "#table 0 0\n"),
     ("u+0061 | 0062 : 0063-0064\r\n", "missing 0062|0061\nmissing 0063-0064|0061\n#table 1 2\n"),
+    # Lines with nothing but blanks, comments, and blanks between words.
+    (" \t\r\n#\n\t# 0041\nU+4e2d\t-\t0066 \n", "#table 1 0\n"),
     # A blocked variant counts for gaps as any other.
     ("%version 2\n0061|!0062\n0062..0063\n", "missing 0062|0061\n#table 3 1\n"),
 ]

@@ -107,6 +107,9 @@ COLLISIONS = [
     (GAP, "a\n", [], "b\n", ("a\ta\tnone\tvariant\n#end 1\n", "", 0)),
     # 2^62 variants, none of them registered.
     (TWO_TO_THE_62, "abba\nabc\nbac\nc\nzoo\n", [], "a" * 62 + "\n", ("#end 0\n", "", 0)),
+    # Between the two that collide two others are registered.
+    (TWO_TO_THE_62, "abba\nabc\nabz\nbaab\nbac\nc\n", [], "aaaa\n",
+     ("abba\tabba\tvariant\tvariant\nbaab\tbaab\tvariant\tvariant\n#end 2\n", "", 0)),
     # A registered label that can't be cut into sources of the table is no fault of the file.
     (GERMAN, "haus\nстол\n", [], "haus\n", ("haus\thaus\tallocatable\tallocatable\n#end 1\n", "", 0)),
     # The text may be longer than any label.
@@ -226,6 +229,10 @@ FAULTS.append((FULL + "4E00..5461\n0061|", 1532, 34))
 CANONICAL = [
     ("%version 2\n0061..0063\n0078|!0079:007A\n", "%version 2\n0061\n0062\n0063\n0078|!0079:007A\n"),
     (" u+0061 | 0062 : 0063 - 0064\r\n", "0061|0062:0063-0064\n"),
+    (" \t\r\n#\n\t# 0041\nU+4e2d\t-\t0066 \n", "4E2D-0066\n"),
+    # Entries stay in the order of the lines.
+    ("00DF|0073-0073\n020000\n0062-0061\n0062", "00DF|0073-0073\n20000\n0062-0061\n0062\n"),
+    ("%version 2\n10000..10002\n00DF|!0073-0073:!0064", "%version 2\n10000\n10001\n10002\n00DF|!0073-0073:!0064\n"),
 ]
 
 

@@ -1,5 +1,5 @@
-//! Tests of what is called from outside, of the crates of tables, rulesets, listings and registered labels. Each file
-//! is named for what it shows.
+//! Tests of what is called from outside, of the crates of tables, listings and registered labels: examples of each call
+//! that no run makes, how much a search looks at, texts of faults. Each file is named for what it shows.
 #![tactic(auto)]
 
 #[cfg(test)]
@@ -7,14 +7,8 @@ mod candidates;
 #[cfg(test)]
 mod collisions;
 #[cfg(test)]
-mod fault_texts;
+mod faults;
 #[cfg(test)]
 mod nets;
-#[cfg(test)]
-mod spelled;
-#[cfg(test)]
-mod table_entries;
-#[cfg(test)]
-mod table_texts;
 #[cfg(test)]
 mod variants;
