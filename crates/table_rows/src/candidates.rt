@@ -1,6 +1,7 @@
-//! The candidates of a variant graph, how many edges a search looks at for each, and how many labels the plain lister has.
+//! The candidates of a variant graph, which are the labels of the plain lister, and how many edges a search looks at for each.
 use crate::nets::net;
 use std::alloc::Global;
+use std::collections::BTreeSet;
 use std::process::Abort;
 use std::test::Fail;
 use variant_list::Cursor;
@@ -14,25 +15,26 @@ const SHARP_S: &[u8] = b"0073\n0073-0073|00DF\n00DF|0073-0073\n";
 #[test]
 fn steps_through_three_labels(rt: HostRuntime) -> Result<(), Fail> {
     let alloc = rt.alloc();
-    let count = plain_count(alloc)?;
+    let labels = plain_labels(alloc)?;
     let net = net(alloc, SHARP_S, &[0x73; 3])?;
     let mut cursor = Cursor::new(alloc, &net, &[])?;
-    assert_looks(&rt, &mut cursor);
-    assert!(rt; count == 3 && net.edges() == 9 && net.shortest() == 2 && cursor.row_bits() == 4096);
+    assert_steps(&rt, &mut cursor, &labels);
+    assert!(rt; net.edges() == 9 && net.shortest() == 2 && cursor.row_bits() == 4096);
     Ok(())
 }
 
-/// How many labels the plain lister has.
-fn plain_count(alloc: Global) -> Result<usize, Fail> {
+/// The labels that the plain lister has.
+fn plain_labels(alloc: Global) -> Result<BTreeSet<Vec<u32>>, Fail> {
     let table = Table::read(alloc, Notation::Table, SHARP_S)?;
-    let labels = all_labels(alloc, &table, &[0x73; 3])?;
-    Ok(labels.len())
+    Ok(all_labels(alloc, &table, &[0x73; 3])?)
 }
 
-/// So many edges are looked at for each of three candidates, and for that there is no further one.
-fn assert_looks(rt: &impl Abort, cursor: &mut Cursor<'_>) {
-    for wanted in [(true, 9), (true, 6), (true, 8), (false, 4)] {
-        let is_there = cursor.next_candidate().is_some();
-        assert_eq!(rt; (is_there, cursor.edge_tests()), wanted);
+/// The candidates are these three labels, and so many edges are looked at for each, and for that there is no further one.
+fn assert_steps(rt: &impl Abort, cursor: &mut Cursor<'_>, labels: &BTreeSet<Vec<u32>>) {
+    for (label, looks) in labels.iter().zip([9, 6, 8]) {
+        assert_eq!(rt; cursor.next_candidate(), Some(label.as_slice()));
+        assert_eq!(rt; cursor.edge_tests(), looks);
     }
+    assert_eq!(rt; cursor.next_candidate(), None);
+    assert!(rt; cursor.edge_tests() == 4 && labels.len() == 3);
 }
