@@ -10,14 +10,14 @@ ghost use Rattle.ruleset_text.specs.Canonical.{definition_text};
 ghost use Rattle.ruleset_text.specs.Definitions as words;
 ghost use Rattle.ruleset_text.specs.Definitions.{added, all_atoms, canonical_size, defined, definition_atoms};
 ghost use Rattle.ruleset_text.specs.Definitions.{nothing_defined, with_definition};
-ghost use Rattle.ruleset_text.specs.Definitions.{rule_name as name_of_rule, with_words};
+ghost use Rattle.ruleset_text.specs.Definitions.{rule_name as name_of_rule};
 ghost use Rattle.ruleset_text.specs.DefinitionForms.{Adds, Refused};
 ghost use Rattle.ruleset_text.specs.DefinitionPlaces.{definition_place, place_of};
 ghost use Rattle.ruleset_text.specs.DefinitionTrees as trees;
 ghost use Rattle.ruleset_text.specs.DemandTrees.{demand};
 ghost use Rattle.ruleset_text.specs.inner.DefinitionSteps.{AreFound, IsEarlier, IsFaultless, IsFresh, Leaves};
 ghost use Rattle.ruleset_text.specs.Names.{is_one_of as is_among};
-ghost use Rattle.ruleset_text.specs.PlacedLexemes.{placed_lexemes, unplaced};
+ghost use Rattle.ruleset_text.specs.PlacedLexemes.{unplaced};
 ghost use Rattle.ruleset_text.specs.WellFormed.{AreDefinitions};
 
 use crate::action::NamedAction;
@@ -266,24 +266,6 @@ impl Definitions {
         let atoms_left = atoms_left_after(&definition, self.atoms_left);
         self.add(definition, atoms_left, len)?;
         Ok(())
-    }
-
-    /// Adds what a line defines: its first word is the keyword. The canonical text of the definitions may have `limit`
-    /// bytes. An `Err` changes nothing. Only tests call this: reading a table finds the keyword first, and calls
-    /// `define`.
-    pub fn define_line(
-        &mut self,
-        alloc: Global,
-        limit: usize,
-        line: &[u8],
-    ) -> Result<(), DefinitionRefusal>
-        ensures read { Leaves result self.new (with_words limit self.old (unplaced (placed_lexemes line.now))) }
-        ensures err { OnErr result (self.new ≡ self.old) }
-    {
-        match DefinitionLine::begun(line) {
-            Ok(line) => self.define(alloc, limit, line),
-            Err(place) => Err(DefinitionFault::Syntax.at(Some(place))),
-        }
     }
 
     /// What is known before a further line.
