@@ -7,7 +7,7 @@ use Rattle.idn2_answers.proofs.LabelStops.{up_to-first, up_to-above, up_to-later
 use Rattle.idn2_answers.specs.Said.{Said, BlockEnd}
 use Rattle.idn2_answers.specs.Listings.{up_to}
 use Rattle.idn2_cli.specs.inner.LineAnswers.{reaches}
-use Rattle.idn2_cli.specs.inner.Progress.{rest_of_block}
+use Rattle.idn2_cli.specs.inner.Progress.{block_from}
 
 -- ---- the block of lists, by the places of its stop
 
@@ -44,26 +44,26 @@ limit_from-later count i = ap (λ (n : ℕ). let o : Option ℕ = Some n in o) (
 -- each variant has a line
 module _ (line : List ℕ → Said) where
   -- the first candidate is the stop, and a variant
-  pub stops_at_variant : (count : ℕ) (c : List ℕ) (vs : List (List ℕ)) (r : Option (List ℕ)) → AllByRecursion (IsBelow c) vs → r ≡ Some c → rest_of_block line count r (c ∷ vs) ≡ line c ∷ BlockEnd (count + 1) (Some c) ∷ []
+  pub stops_at_variant : (count : ℕ) (c : List ℕ) (vs : List (List ℕ)) (r : Option (List ℕ)) → AllByRecursion (IsBelow c) vs → r ≡ Some c → block_from line count r (c ∷ vs) ≡ line c ∷ BlockEnd (count + 1) (Some c) ∷ []
   stops_at_variant count c vs r h e =
-      ap (λ (s : Option (List ℕ)). rest_of_block line count s (c ∷ vs)) e
+      ap (λ (s : Option (List ℕ)). block_from line count s (c ∷ vs)) e
       ∙ ap (λ (l : List (List ℕ)). map line l ++ BlockEnd (count + length l) (Some c) ∷ []) (up_to-first c vs h)
 
   -- the first candidate is the stop, and no variant
-  pub stops_at_other : (count : ℕ) (c : List ℕ) (vs : List (List ℕ)) (r : Option (List ℕ)) → AllByRecursion (IsBelow c) vs → r ≡ Some c → rest_of_block line count r vs ≡ BlockEnd count (Some c) ∷ []
+  pub stops_at_other : (count : ℕ) (c : List ℕ) (vs : List (List ℕ)) (r : Option (List ℕ)) → AllByRecursion (IsBelow c) vs → r ≡ Some c → block_from line count r vs ≡ BlockEnd count (Some c) ∷ []
   stops_at_other count c vs r h e =
-      ap (λ (s : Option (List ℕ)). rest_of_block line count s vs) e
+      ap (λ (s : Option (List ℕ)). block_from line count s vs) e
       ∙ ap (λ (l : List (List ℕ)). map line l ++ BlockEnd (count + length l) (Some c) ∷ []) (up_to-above c vs h)
       ∙ ap (λ (n : ℕ). BlockEnd n (Some c) ∷ []) (add_none count)
 
   -- the stop comes later
-  pub stops_later : (count : ℕ) (c : List ℕ) (vs : List (List ℕ)) (r : Option (List ℕ)) → IfSome r (IsBelow c) → rest_of_block line count r (c ∷ vs) ≡ line c ∷ rest_of_block line (count + 1) r vs
+  pub stops_later : (count : ℕ) (c : List ℕ) (vs : List (List ℕ)) (r : Option (List ℕ)) → IfSome r (IsBelow c) → block_from line count r (c ∷ vs) ≡ line c ∷ block_from line (count + 1) r vs
   stops_later count c vs r h =
       ap (λ (l : List (List ℕ)). map line l ++ BlockEnd (count + length l) r ∷ []) (up_to-later c vs r h)
       ∙ ap (λ (n : ℕ). line c ∷ (map line (up_to r vs) ++ BlockEnd n r ∷ [])) (add_later count (length (up_to r vs)))
 
   -- the stop is the first candidate, a variant, or comes later
-  pub stops_from : (count : ℕ) (c : List ℕ) (vs : List (List ℕ)) (r : Option (List ℕ)) → AllByRecursion (IsBelow c) vs → IfSome r (IsFrom c) → rest_of_block line count r (c ∷ vs) ≡ line c ∷ rest_of_block line (count + 1) r vs
+  pub stops_from : (count : ℕ) (c : List ℕ) (vs : List (List ℕ)) (r : Option (List ℕ)) → AllByRecursion (IsBelow c) vs → IfSome r (IsFrom c) → block_from line count r (c ∷ vs) ≡ line c ∷ block_from line (count + 1) r vs
   stops_from count c vs None above h = stops_later count c vs None tt
   stops_from count c vs (Some b) above (inl same) =
       let here : (let o : Option (List ℕ) = Some b in o) ≡ Some c = ap (λ (x : List ℕ). let o : Option (List ℕ) = Some x in o) (sym same) in

@@ -27,36 +27,36 @@ use Rattle.idn2_cli.specs.inner.FoundLabels.{collision_line_by, ending, found_bl
 use Rattle.idn2_cli.specs.declared.modes.decided.Decisions.{Decisions}
 use Rattle.idn2_cli.specs.inner.Decided.{IsOfPair}
 use Rattle.idn2_cli.specs.inner.LineAnswers.{reaches}
-use Rattle.idn2_cli.specs.inner.Progress.{rest_of_block}
+use Rattle.idn2_cli.specs.inner.Progress.{block_from}
 use Rattle.idn2_cli.proofs.BlockSteps.{get_if_given, limit_from, stops_at_variant, stops_later, reaches-now, reaches-later, limit_from-later, add_none}
-use Rattle.idn2_cli.proofs.ListingLemmas.{rest_of_block-none}
+use Rattle.idn2_cli.proofs.ListingLemmas.{block_from-none}
 
 -- ---- the lines to come
 
 module _ (line : List ℕ → Said) where
-  rest_of_block-from : (vs : List (List ℕ)) → IsRising vs → (count : ℕ) (place : Option ℕ)
-      → rest_of_block line count (get_if_given vs place) vs ≡ lines_from line (limit_from count place) count vs
-  rest_of_block-from [] rising count None = ap (λ (n : ℕ). BlockEnd n None ∷ []) (add_none count)
-  rest_of_block-from [] rising count (Some i) = ap (λ (n : ℕ). BlockEnd n None ∷ []) (add_none count)
-  rest_of_block-from (v ∷ vs) rising count None =
-      stops_later line count v vs None tt ∙ ap (λ (l : List Said). line v ∷ l) (rest_of_block-from vs rising.1 (count + 1) None)
-  rest_of_block-from (v ∷ vs) rising count (Some zero) =
+  block_from-from : (vs : List (List ℕ)) → IsRising vs → (count : ℕ) (place : Option ℕ)
+      → block_from line count (get_if_given vs place) vs ≡ lines_from line (limit_from count place) count vs
+  block_from-from [] rising count None = ap (λ (n : ℕ). BlockEnd n None ∷ []) (add_none count)
+  block_from-from [] rising count (Some i) = ap (λ (n : ℕ). BlockEnd n None ∷ []) (add_none count)
+  block_from-from (v ∷ vs) rising count None =
+      stops_later line count v vs None tt ∙ ap (λ (l : List Said). line v ∷ l) (block_from-from vs rising.1 (count + 1) None)
+  block_from-from (v ∷ vs) rising count (Some zero) =
       stops_at_variant line count v vs (Some v) rising.0 refl
       ∙ ap (λ (b : Bool). line v ∷ (if b then BlockEnd (count + 1) (Some v) ∷ [] else lines_from line (limit_from count (Some 0)) (count + 1) vs)) (sym (reaches-now count))
-  rest_of_block-from (v ∷ vs) rising count (Some (suc i)) =
+  block_from-from (v ∷ vs) rising count (Some (suc i)) =
       stops_later line count v vs (slice_get vs i) (get-above v vs i rising.0)
-      ∙ ap (λ (l : List Said). line v ∷ l) (rest_of_block-from vs rising.1 (count + 1) (Some i))
+      ∙ ap (λ (l : List Said). line v ∷ l) (block_from-from vs rising.1 (count + 1) (Some i))
       ∙ ap (λ (limit : Option ℕ). line v ∷ lines_from line limit (count + 1) vs) (sym (limit_from-later count i))
       ∙ ap (λ (b : Bool). line v ∷ (if b then BlockEnd (count + 1) (Some v) ∷ [] else lines_from line (limit_from count (Some (suc i))) (count + 1) vs)) (sym (reaches-later count i))
 
   -- the block is these lines
   block-lines : (vs : List (List ℕ)) (limit : Option ℕ) → IsRising vs → IfSome limit IsCount → block_to line (nth_if_given vs limit) vs ≡ lines_from line limit 0 vs
-  block-lines vs None rising limits = rest_of_block-none line None vs ∙ rest_of_block-from vs rising 0 None
+  block-lines vs None rising limits = block_from-none line None vs ∙ block_from-from vs rising 0 None
   block-lines vs (Some zero) rising limits = absurd (omega (arith, limits.0))
   block-lines vs (Some (suc m)) rising limits =
-      rest_of_block-none line (slice_get vs (suc m - 1)) vs
-      ∙ ap (λ (n : ℕ). rest_of_block line 0 (slice_get vs n) vs) (let one : suc m - 1 ≡ m = omega arith in one)
-      ∙ rest_of_block-from vs rising 0 (Some m)
+      block_from-none line (slice_get vs (suc m - 1)) vs
+      ∙ ap (λ (n : ℕ). block_from line 0 (slice_get vs n) vs) (let one : suc m - 1 ≡ m = omega arith in one)
+      ∙ block_from-from vs rising 0 (Some m)
       ∙ ap (λ (n : ℕ). lines_from line (Some n) 0 vs) (let same : (0 + 1) + m ≡ suc m = omega arith in same)
 
 -- ---- the labels that are found among those that a walk comes to

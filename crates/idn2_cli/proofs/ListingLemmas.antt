@@ -20,15 +20,15 @@ use Rattle.answer_json.specs.declared.block.Disposition.{Disposition}
 use Rattle.idn2_answers.specs.Said.{Said, BlockEnd}
 use Rattle.idn2_answers.specs.Listings.{Filter, nth, nth_if_given, lesser_label, up_to, variant_by, block_to}
 use Rattle.idn2_cli.specs.inner.Dispositions.{block_by}
-use Rattle.idn2_cli.specs.inner.Progress.{IsWritable, from_here, from_here_if, rest_of_block, more_to, stop_from, variants_ahead}
+use Rattle.idn2_cli.specs.inner.Progress.{IsWritable, from_here, from_here_if, block_from, more_to, stop_from, variants_ahead}
 use Rattle.idn2_answers.proofs.FilterLemmas.{IsSound, accepted-short}
 use Rattle.idn2_cli.proofs.StopSteps.{IsAbove}
 use Rattle.variant_table.proofs.MemberLists.{all-members}
 
 -- ---- the block
 
-pub rest_of_block-none : (line : List ℕ → Said) (stop : Option (List ℕ)) (vs : List (List ℕ)) → block_to line stop vs ≡ rest_of_block line 0 stop vs
-rest_of_block-none line stop vs = ap (λ (n : ℕ). map line (up_to stop vs) ++ BlockEnd n stop ∷ []) (omega arith)
+pub block_from-none : (line : List ℕ → Said) (stop : Option (List ℕ)) (vs : List (List ℕ)) → block_to line stop vs ≡ block_from line 0 stop vs
+block_from-none line stop vs = ap (λ (n : ℕ). map line (up_to stop vs) ++ BlockEnd n stop ∷ []) (omega arith)
 
 -- the n-th of the labels to come
 nth-here : (last : List ℕ) (vs : List (List ℕ)) (n : ℕ) → 1 ≤ n → nth vs n ≡ from_here last vs n
@@ -49,7 +49,7 @@ limit-here last vs (Some n) limits = nth-here last vs n limits.0 ∙ ap (from_he
 
 -- where a listing starts, all of its block is still to come
 pub block-start : (properties : Properties) (f : Filter) → IsSound properties f → (field : List ℕ → Option Disposition) (o : Settings) (net : Built) → IsWithinLimits o → (p : Position) → p.net ≡ net → p.last ≡ take 63 o.after
-    → block_by f field o net.spelled ≡ rest_of_block (variant_by field) 0 (stop_from f p (more_to o.limit 0) o.tries o.steps) (variants_ahead f p)
+    → block_by f field o net.spelled ≡ block_from (variant_by field) 0 (stop_from f p (more_to o.limit 0) o.tries o.steps) (variants_ahead f p)
 block-start properties f sound field o net limits p same_net same_last =
     let last : List ℕ = take 63 o.after in
     let line : List ℕ → Said = variant_by field in
@@ -66,14 +66,14 @@ block-start properties f sound field o net limits p same_net same_last =
     ∙ ap (λ (t : Option (List ℕ)). block_to line (lesser_label (nth_if_given vs o.limit) (lesser_label t (nth_if_given (visited f.hopeless None (candidates_among net.spelled o.after)) o.steps))) vs) tries
     ∙ ap (λ (s : Option (List ℕ)). block_to line (lesser_label (nth_if_given vs o.limit) (lesser_label (from_here last cs o.tries) s)) vs) steps
     ∙ ap (λ (l : Option (List ℕ)). block_to line (lesser_label l (lesser_label (from_here last cs o.tries) (from_here_if last us o.steps))) vs) (limit-here last vs o.limit limits.limit)
-    ∙ rest_of_block-none line (lesser_label (from_here_if last vs (more_to o.limit 0)) (lesser_label (from_here last cs o.tries) (from_here_if last us o.steps))) vs
+    ∙ block_from-none line (lesser_label (from_here_if last vs (more_to o.limit 0)) (lesser_label (from_here last cs o.tries) (from_here_if last us o.steps))) vs
     ∙ sym (ap (λ (b : Built). at b last) same_net)
     ∙ sym (ap (at p.net) same_last)
   where
     at : Built → List ℕ → List Said
     at b last =
         let q : Position = record { net = b; last = last; edge_tests = p.edge_tests } in
-        rest_of_block (variant_by field) 0 (stop_from f q (more_to o.limit 0) o.tries o.steps) (variants_ahead f q)
+        block_from (variant_by field) 0 (stop_from f q (more_to o.limit 0) o.tries o.steps) (variants_ahead f q)
 
 -- the test of the labels that a listing tests
 abbrev fits_alive : Filter → List ℕ → Bool

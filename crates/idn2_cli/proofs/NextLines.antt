@@ -17,7 +17,7 @@ use Rattle.idn2_cli.specs.inner.Blocks.{KnowsLabel, Tells, filter_of_judge}
 use Rattle.idn2_cli.specs.inner.CachedLines.{IsBegun}
 use Rattle.idn2_cli.specs.inner.Dispositions.{block_by}
 use Rattle.idn2_cli.specs.inner.LineAnswers.{reaches}
-use Rattle.idn2_cli.specs.inner.Progress.{GoesToEnd, GoesToStop, GoesToVariant, IsUnderWay, IsWritable, NeedsNoMore, lines_ahead, rest_of_block, more_to, stop_from, variants_ahead}
+use Rattle.idn2_cli.specs.inner.Progress.{GoesToEnd, GoesToStop, GoesToVariant, IsUnderWay, IsWritable, GoesOnWithoutMemory, lines_ahead, block_from, more_to, stop_from, variants_ahead}
 use Rattle.idn2_cli.specs.inner.Ruling.{filter_for}
 use Rattle.idn2_cli.proofs.ListingLemmas.{block-start, start-writable}
 use Rattle.idn2_cli.proofs.ListingProgress.{HasEnded, HasFound, RunsOutOfSteps, RunsOutOfTries, ended-lines, found-ahead, found-lines, found-writable, halted-lines, halted-writable, reached-lines, spent-lines, spent-writable}
@@ -58,11 +58,11 @@ module _ (o : Settings) (net : Built) (start : Progress) (limits : IsWithinLimit
       let line = variant_by field in
       let p = start.cursor in
       block-start o.properties asked (filter_for-IsSound o.properties start.judge.validity start.judge.dispositions) field o net limits p at.net at.last
-      ∙ ap (λ (limit : Option ℕ). rest_of_block line 0 (stop_from asked p (more_to limit 0) o.tries o.steps) (variants_ahead asked p)) (sym at.limit)
-      ∙ ap (λ (tries : ℕ). rest_of_block line 0 (stop_from asked p (more_to start.limit 0) tries o.steps) (variants_ahead asked p)) (sym at.tries)
-      ∙ ap (λ (steps : Option ℕ). rest_of_block line 0 (stop_from asked p (more_to start.limit 0) start.tries steps) (variants_ahead asked p)) (sym at.steps)
-      ∙ ap (λ (count : ℕ). rest_of_block line count (stop_from asked p (more_to start.limit count) start.tries start.steps) (variants_ahead asked p)) (sym at.none)
-      ∙ ap (λ (f : Filter). rest_of_block line start.count (stop_from f p (more_to start.limit start.count) start.tries start.steps) (variants_ahead f p)) (sym at.asked)
+      ∙ ap (λ (limit : Option ℕ). block_from line 0 (stop_from asked p (more_to limit 0) o.tries o.steps) (variants_ahead asked p)) (sym at.limit)
+      ∙ ap (λ (tries : ℕ). block_from line 0 (stop_from asked p (more_to start.limit 0) tries o.steps) (variants_ahead asked p)) (sym at.tries)
+      ∙ ap (λ (steps : Option ℕ). block_from line 0 (stop_from asked p (more_to start.limit 0) start.tries steps) (variants_ahead asked p)) (sym at.steps)
+      ∙ ap (λ (count : ℕ). block_from line count (stop_from asked p (more_to start.limit count) start.tries start.steps) (variants_ahead asked p)) (sym at.none)
+      ∙ ap (λ (f : Filter). block_from line start.count (stop_from f p (more_to start.limit start.count) start.tries start.steps) (variants_ahead f p)) (sym at.asked)
 
   pub start-under_way : All AreScalarValues net.spelled → KnowsLabel start.judge start.cursor.last → IsUnderWay start
   start-under_way spelled known = record {
@@ -77,8 +77,8 @@ module _ (o : Settings) (net : Built) (start : Progress) (limits : IsWithinLimit
       nothing-within None = tt
       nothing-within (Some n) = omega arith
 
-  pub start-no_more : All NeedsNoMemory (tested_after asked o net.spelled) → NeedsNoMore start
-  start-no_more all =
+  pub start-no_memory : All NeedsNoMemory (tested_after asked o net.spelled) → GoesOnWithoutMemory start
+  start-no_memory all =
       subst (λ (f : Filter). All NeedsNoMemory (tested_among f.hopeless start.cursor.net.spelled start.cursor.last)) (sym at.asked)
       (subst (λ (b : Built). All NeedsNoMemory (tested_among asked.hopeless b.spelled start.cursor.last)) (sym at.net)
       (subst (λ (last : List ℕ). All NeedsNoMemory (tested_among asked.hopeless net.spelled last)) (sym at.last) (subst (All NeedsNoMemory) (tested-cut asked.hopeless net.spelled o.after) all)))
@@ -108,7 +108,7 @@ module _ (old : Progress) (q : Position) (judge : VariantJudge) (left : ℕ) (re
   to-variant same found known tells = record {
     said = λ line.
         found-lines f old.cursor q old.tries left old.steps rest found line old.limit old.count some
-        ∙ ap (λ (g : Filter). line q.last ∷ rest_of_block line (old.count + 1) (stop_from g q (more_to old.limit (old.count + 1)) left rest) (variants_ahead g q)) (sym same);
+        ∙ ap (λ (g : Filter). line q.last ∷ block_from line (old.count + 1) (stop_from g q (more_to old.limit (old.count + 1)) left rest) (variants_ahead g q)) (sym same);
     registrable = (
       old.judge.properties,
       subst (IsRegistrable old.judge.properties) (sym found.last) ((filter_for-IsSound old.judge.properties old.judge.validity old.judge.dispositions).registrable _ found.found.accepted),
@@ -122,7 +122,7 @@ module _ (old : Progress) (q : Position) (judge : VariantJudge) (left : ℕ) (re
       few = omega (arith, h.few, found.found.tries_left, found.found.within);
     };
     fewer_tries = omega (arith, found.found.tries_left, found.found.within);
-    no_more = λ none.
+    no_memory = λ none.
         subst (λ (g : Filter). All NeedsNoMemory (tested_ahead g.hopeless q)) (sym same)
         (subst (All NeedsNoMemory) (sym (found-ahead f old.cursor q old.tries left old.steps rest found)) (All-drop NeedsNoMemory (old.tries - left) (tested_ahead f.hopeless old.cursor) none));
   }

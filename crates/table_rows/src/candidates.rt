@@ -29,7 +29,7 @@ fn plain_labels(alloc: Global) -> Result<BTreeSet<Vec<u32>>, Fail> {
     Ok(all_labels(alloc, &table, &[0x73; 3])?)
 }
 
-/// The candidates are these three labels, and so many edges are looked at for each, and for that there is no further one.
+/// The candidates are these three labels, and so many edges are looked at for each, and to find that there is none.
 fn assert_steps(rt: &impl Abort, cursor: &mut Cursor<'_>, labels: &BTreeSet<Vec<u32>>) {
     for (label, looks) in labels.iter().zip([9, 6, 8]) {
         assert_eq!(rt; cursor.next_candidate(), Some(label.as_slice()));

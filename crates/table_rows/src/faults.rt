@@ -1,13 +1,7 @@
-//! The faults of tables and of variant graphs, and what they print.
+//! What the faults of tables and of variant graphs print.
 use std::test::Fail;
 use variant_list::{NetFault, ReversedFault};
-use variant_table::{Notation, Table, TableFault};
-
-#[test]
-fn fault_of_a_table(rt: HostRuntime) {
-    let read = Table::read(rt.alloc(), Notation::Table, b"0061\n0061|\n");
-    assert_eq!(rt; read.err(), Some(TableFault::Syntax { line: 2 }));
-}
+use variant_table::TableFault;
 
 #[test]
 fn texts_of_faults_of_tables(rt: HostRuntime) -> Result<(), Fail> {

@@ -11,4 +11,6 @@ mod faults;
 #[cfg(test)]
 mod nets;
 #[cfg(test)]
+mod tables;
+#[cfg(test)]
 mod variants;

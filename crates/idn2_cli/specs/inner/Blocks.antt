@@ -20,6 +20,10 @@ use Rattle.idn2_cli.specs.inner.CachedLines.{IsBegun}
 use Rattle.idn2_cli.specs.inner.Dispositions.{Listing, block_by}
 use Rattle.idn2_cli.specs.inner.Ruling.{KeepsOf, filter_for, ruling_in, ruling_of}
 
+-- the disposition of a label in a listing
+abbrev pub disposition_by : Listing → List ℕ → Option Disposition
+disposition_by of v = disposition of.table of.label v
+
 -- the block of the label of a listing, which spells these, as it is written in reply to a line; labels are judged by a
 -- test, too, if there is one
 abbrev pub field_in : Settings → Listing → List ℕ → Option Disposition
@@ -47,7 +51,7 @@ class_of (Some Blocked) = 2
 class_of (Some Unclear) = 3
 
 abbrev pub class_by : Listing → List ℕ → ℕ
-class_by of v = class_of (disposition of.table of.label v)
+class_by of v = class_of (disposition_by of v)
 
 -- and the disposition that it found is that of this label in the listing
 abbrev pub Tells : VariantJudge → List ℕ → Type 0

@@ -45,19 +45,19 @@ stop_from f p more tries steps =
     (from_here_if p.last (visited_ahead f.hopeless p) steps))
 
 -- after `count` variants, what is said of these up to a stop, and then the end
-abbrev pub rest_of_block : (List ℕ → Said) → ℕ → Option (List ℕ) → List (List ℕ) → List Said
-rest_of_block line count stop vs = map line (up_to stop vs) ++ BlockEnd (count + length (up_to stop vs)) stop ∷ []
+abbrev pub block_from : (List ℕ → Said) → ℕ → Option (List ℕ) → List (List ℕ) → List Said
+block_from line count stop vs = map line (up_to stop vs) ++ BlockEnd (count + length (up_to stop vs)) stop ∷ []
 
 -- what a block still says, by what it says of each variant
 abbrev pub lines_ahead : (List ℕ → Said) → Progress → List Said
 lines_ahead line at =
-    rest_of_block line at.count
+    block_from line at.count
     (stop_from (filter_of_judge at.judge) at.cursor (more_to at.limit at.count) at.tries at.steps)
     (variants_ahead (filter_of_judge at.judge) at.cursor)
 
 -- the labels that are still to be tested need no memory
-abbrev pub NeedsNoMore : Progress → Type 0
-NeedsNoMore at = All NeedsNoMemory (tested_ahead (filter_of_judge at.judge).hopeless at.cursor)
+abbrev pub GoesOnWithoutMemory : Progress → Type 0
+GoesOnWithoutMemory at = All NeedsNoMemory (tested_ahead (filter_of_judge at.judge).hopeless at.cursor)
 
 -- ---- the next line
 
@@ -66,7 +66,8 @@ pub record IsWritable (v : List ℕ) : Type 0 where
   pub short : length v ≤ 63
   pub scalar_values : AreScalarValues v
 
--- a line may come: the judge knows the label at which the cursor stands, and no more variants came than are wanted
+-- a line may come: the judge knows the label at which the cursor stands, no more variants are listed than may be, and
+-- these and the tries are too few to overflow the count
 pub record IsUnderWay (at : Progress) : Type 0 where
   pub known : KnowsLabel at.judge at.cursor.last
   pub writable : IsWritable at.cursor.last
@@ -74,16 +75,16 @@ pub record IsUnderWay (at : Progress) : Type 0 where
   pub within : IfSome at.limit (λ limit. at.count ≤ limit)
   pub few : at.count + at.tries ≤ 1000000000
 
--- the cursor goes to the next variant, of which the judge tells, and the block says all but this
+-- the cursor goes to the next variant, of which the judge tells: its line comes next, and then the lines ahead from there
 pub record GoesToVariant (old new : Progress) : Type 0 where
   pub said : (line : List ℕ → Said) → lines_ahead line old ≡ line new.cursor.last ∷ lines_ahead line new
   pub registrable : (properties : Properties) × IsRegistrable properties new.cursor.last
   pub tells : Tells new.judge new.cursor.last
   pub under_way : IsUnderWay new
   pub fewer_tries : new.tries < old.tries
-  pub no_more : NeedsNoMore old → NeedsNoMore new
+  pub no_memory : GoesOnWithoutMemory old → GoesOnWithoutMemory new
 
--- the cursor goes to the label at which the listing stops
+-- the cursor stands at the label at which the block stops
 pub record GoesToStop (old new : Progress) : Type 0 where
   pub said : (line : List ℕ → Said) → lines_ahead line old ≡ BlockEnd new.count (Some new.cursor.last) ∷ []
   pub writable : IsWritable new.cursor.last

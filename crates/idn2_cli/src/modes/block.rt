@@ -1,6 +1,7 @@
 //! The block of a label: a line for each of its variants, and a trailer.
 
-ghost use Rattle.std.specs.Prelude.{◌≡◌, ◌≤◌, ℕ, ◌∷◌, [], ◌++◌, List, length, codes, decimal, All, None, Some, IfErr};
+ghost use Rattle.std.specs.Prelude.{◌≡◌, ◌≤◌, ℕ, ◌∷◌, [], ◌++◌, List, length, codes, decimal, All, None, Some};
+ghost use Rattle.std.specs.Prelude.{◌≢◌, Err, IfErr};
 ghost use Rattle.idn_text.specs.Points.{AreScalarValues};
 ghost use Rattle.idn_class.specs.declared.properties.Properties.{Properties};
 ghost use Rattle.idn_label.specs.ALabel.{a_label_of};
@@ -16,7 +17,7 @@ ghost use Rattle.idn2_cli.specs.Memory.{TestsWithoutMemory};
 ghost use Rattle.idn2_cli.specs.inner.Asked.{lines_to, said_to};
 ghost use Rattle.idn2_cli.specs.inner.Blocks.{block_output, field_in};
 ghost use Rattle.idn2_cli.specs.inner.CachedLines.{IsBegun};
-ghost use Rattle.idn2_cli.specs.inner.Progress.{IsUnderWay, NeedsNoMore, lines_ahead};
+ghost use Rattle.idn2_cli.specs.inner.Progress.{IsUnderWay, GoesOnWithoutMemory, lines_ahead};
 ghost use Rattle.idn2_cli.specs.inner.Ruling.{KeepsOf, filter_for, ruling_in, ruling_of};
 ghost use Rattle.idn2_output.specs.declared.stop.Stop.TheVariants as stop;
 
@@ -91,7 +92,7 @@ fn write_lines<W: Sink, E: Sink>(
     requires under_way { IsUnderWay progress.old }
     ensures written { Emits console.old console.new (lines_to asked.now
         (lines_ahead (variant_by (field_in options.now progress.old.judge.dispositions)) progress.old)) result }
-    ensures begun { StopsForMemory (NeedsNoMore progress.old) console.old console.new result }
+    ensures no_memory { GoesOnWithoutMemory progress.old → result ≢ Err stop.Memory }
 {
     let wanted = options.tells_causes();
     'lines: loop {
@@ -110,7 +111,7 @@ fn write_lines<W: Sink, E: Sink>(
     }
 }
 
-/// The disposition that is told: that a variant is unclear only where causes are told, and else that it is blocked.
+/// The disposition that is told: an unclear variant is told as blocked, unless causes are told.
 fn shown(wanted: bool, disposition: Option<Disposition>) -> Option<Disposition>
     ensures { result ≡ shown wanted disposition }
 {

@@ -1,9 +1,9 @@
 //! How far the block of a label has come, and which of its lines is the next.
 
-ghost use Rattle.std.specs.Prelude.{◌≡◌, IfOk, IsOk};
-ghost use Rattle.idn2_cli.specs.inner.Blocks.{class_by};
+ghost use Rattle.std.specs.Prelude.{◌≡◌, ℕ, List, IfOk, IsOk};
+ghost use Rattle.idn2_cli.specs.inner.Blocks.{disposition_by};
 ghost use Rattle.idn2_cli.specs.inner.LineAnswers.{reaches};
-ghost use Rattle.idn2_cli.specs.inner.Progress.{GoesTo, IsUnderWay, NeedsNoMore};
+ghost use Rattle.idn2_cli.specs.inner.Progress.{GoesTo, IsUnderWay, GoesOnWithoutMemory};
 
 use crate::modes::variant_judge::VariantJudge;
 use std::alloc::{AllocError, Global};
@@ -14,9 +14,9 @@ use variant_list::{Cursor, Outcome};
 pub(crate) enum Line {
     /// That of the variant at which the cursor stands.
     Variant,
-    /// The end of a listing that stops at the label at which the cursor stands.
+    /// The trailer of a block that stops at the label at which the cursor stands.
     Stop,
-    /// The end of a listing that has no further variant.
+    /// The trailer of a block whose listing has ended.
     End,
 }
 
@@ -25,26 +25,27 @@ pub(crate) enum Line {
 pub(crate) struct Progress<'n, 'p, 'd> {
     pub cursor: Cursor<'n>,
     pub judge: VariantJudge<'p, 'd>,
-    /// How many variants are listed at most.
+    /// How many variants may be listed, if that is bounded.
     pub limit: Option<u64>,
     /// How many more labels may be tested.
     pub tries: u64,
-    /// How many more steps may be taken.
+    /// How many more steps may be taken, if that is bounded.
     pub steps: Option<u64>,
-    /// How many variants came.
+    /// How many variants are listed so far.
     pub count: u64,
 }
 
 impl<'n, 'p, 'd> Progress<'n, 'p, 'd> {
-    /// Goes on to the next line. After the last one, or an error, there is none.
+    /// Goes on to the next line. It isn't called again after the last one, or after an error.
     ///
-    /// Always inline: a block's loop calls it once, for each of its lines.
+    /// Always inline: it has one call, in the loop over a block's lines.
     #[inline(always)]
     pub(crate) fn advance(&mut self, alloc: Global) -> Result<Line, AllocError>
         requires under_way { IsUnderWay self.old }
         ensures goes { IfOk result (λ line. GoesTo line self.old self.new) }
-        ensures no_memory { NeedsNoMore self.old → IsOk result }
-        ensures same_classes { class_by self.new.judge.dispositions ≡ class_by self.old.judge.dispositions }
+        ensures no_memory { GoesOnWithoutMemory self.old → IsOk result }
+        ensures same_dispositions { (v : List ℕ) → disposition_by self.new.judge.dispositions v ≡
+            disposition_by self.old.judge.dispositions v }
     {
         if is_reached(self.limit, self.count) {
             return Ok(Line::Stop);

@@ -1,4 +1,4 @@
-use Rattle.std.proofs.Common.{List, Option, None, sym, subst, refl, inl, inr}
+use Rattle.std.proofs.Common.{List, Option, None, sym, subst, refl, inr}
 use Rattle.std.proofs.lemmas.Result.{err_from_is_err_and}
 use Rattle.idn_class.specs.Known.{AreKnown}
 use Rattle.idn_class.proofs.KnownLemmas.{AreKnown-nil}
@@ -15,7 +15,7 @@ use Rattle.idn2_cli.specs.declared.modes.variant_judge.VariantJudge.{VariantJudg
 use Rattle.idn2_cli.specs.inner.Blocks.{field_in}
 use Rattle.idn2_cli.specs.inner.CachedLines.{Begun}
 use Rattle.idn2_cli.specs.inner.Dispositions.{Listing}
-use Rattle.idn2_cli.proofs.NextLines.{at-start, start-lines, start-no_more, start-under_way}
+use Rattle.idn2_cli.proofs.NextLines.{at-start, start-lines, start-no_memory, start-under_way}
 use Rattle.idn2_cli.proofs.modes.block.write_block.Goals as goal
 
 -- the judge before its first label
@@ -46,8 +46,4 @@ returns-clause-written g c =
 
 pub returns-clause-begun : goal.returns-clause-begun
 returns-clause-begun g c = λ memory.
-    elim (c.write_lines.ensures.begun memory) [
-      | inl unwritten ↦ inl unwritten
-      | inr some ↦
-          inr (λ none. some (start-no_more c.args.options.now c.args.net.now _ c.requires.limits (at-start _ _ _ _ _ (first c.new-2.result c.new-3.result c.new-4.result c.args.validity c.args.dispositions c.options.inside.properties) c.options.view_is c.deref.ensures.value c.in_ok-cursor.ensures refl) none))
-    ]
+    inr (λ none. c.write_lines.ensures.no_memory (start-no_memory c.args.options.now c.args.net.now _ c.requires.limits (at-start _ _ _ _ _ (first c.new-2.result c.new-3.result c.new-4.result c.args.validity c.args.dispositions c.options.inside.properties) c.options.view_is c.deref.ensures.value c.in_ok-cursor.ensures refl) none) memory)

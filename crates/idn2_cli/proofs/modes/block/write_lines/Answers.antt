@@ -1,9 +1,8 @@
-use Rattle.std.proofs.Common.{◌≡◌, ◌∙◌, ℕ, List, [], ◌∷◌, Bool, Option, None, Some, Err, ap, sym, subst, refl, inr, arith}
+use Rattle.std.proofs.Common.{◌≡◌, ◌∙◌, ℕ, List, [], ◌∷◌, Bool, Option, Some, Err, ap, sym, subst, refl}
 use Rattle.std.proofs.lemmas.Result.{err_from_is_err_and}
 use Rattle.variant_list.proofs.CallAnswers.{not_ok}
 use Rattle.idn2_options.specs.Settings.{Settings, tells_causes}
 use Rattle.answer_json.specs.declared.block.Disposition.{Disposition}
-use Rattle.answer_json.specs.declared.block.Disposition.TheVariants as told_as
 use Rattle.idn2_answers.specs.Dispositions.{shown}
 use Rattle.idn2_answers.specs.Listings.{variant_by}
 use Rattle.idn2_answers.specs.Said.{BlockEnd, Said, Listed, said_text}
@@ -14,37 +13,17 @@ use Rattle.idn2_cli.specs.declared.modes.progress.Line.TheVariants as line
 use Rattle.idn2_cli.specs.declared.modes.progress.Progress.{Progress}
 use Rattle.idn2_cli.specs.declared.modes.variant_judge.VariantJudge.{VariantJudge}
 use Rattle.idn2_cli.specs.inner.Asked.{asked_line}
-use Rattle.idn2_cli.specs.inner.Blocks.{Tells, class_by, class_of, field_in}
+use Rattle.idn2_cli.specs.inner.Blocks.{Tells, disposition_by, field_in}
 use Rattle.idn2_cli.specs.inner.CachedLines.{IsBegun}
 use Rattle.idn2_cli.specs.inner.Dispositions.{Listing}
 use Rattle.idn2_cli.specs.inner.Progress.{GoesTo, lines_ahead}
 use Rattle.idn2_cli.proofs.ListingProgress.{written-broken, written-last, written-next, written-start}
 use Rattle.idn2_cli.proofs.modes.block.write_lines.Goals as goal
 
--- classes tell dispositions apart
-class-same : (f g : Option Disposition) → class_of f ≡ class_of g → f ≡ g
-class-same None None e = refl
-class-same None (Some told_as.Allocatable) e = absurd (omega (arith, e))
-class-same None (Some told_as.Blocked) e = absurd (omega (arith, e))
-class-same None (Some told_as.Unclear) e = absurd (omega (arith, e))
-class-same (Some told_as.Allocatable) None e = absurd (omega (arith, e))
-class-same (Some told_as.Allocatable) (Some told_as.Allocatable) e = refl
-class-same (Some told_as.Allocatable) (Some told_as.Blocked) e = absurd (omega (arith, e))
-class-same (Some told_as.Allocatable) (Some told_as.Unclear) e = absurd (omega (arith, e))
-class-same (Some told_as.Blocked) None e = absurd (omega (arith, e))
-class-same (Some told_as.Blocked) (Some told_as.Allocatable) e = absurd (omega (arith, e))
-class-same (Some told_as.Blocked) (Some told_as.Blocked) e = refl
-class-same (Some told_as.Blocked) (Some told_as.Unclear) e = absurd (omega (arith, e))
-class-same (Some told_as.Unclear) None e = absurd (omega (arith, e))
-class-same (Some told_as.Unclear) (Some told_as.Allocatable) e = absurd (omega (arith, e))
-class-same (Some told_as.Unclear) (Some told_as.Blocked) e = absurd (omega (arith, e))
-class-same (Some told_as.Unclear) (Some told_as.Unclear) e = refl
-
 -- the disposition that the judge told is that of the listing, whose classes stay
-tells_field : (o : Settings) (of : Listing) (judge : VariantJudge) (v last : List ℕ) {field : Option Disposition} {wanted : Bool} → field ≡ shown wanted judge.told → wanted ≡ tells_causes o → v ≡ last → Tells judge last → class_by judge.dispositions ≡ class_by of → field ≡ field_in o of v
+tells_field : (o : Settings) (of : Listing) (judge : VariantJudge) (v last : List ℕ) {field : Option Disposition} {wanted : Bool} → field ≡ shown wanted judge.told → wanted ≡ tells_causes o → v ≡ last → Tells judge last → disposition_by judge.dispositions last ≡ disposition_by of last → field ≡ field_in o of v
 tells_field o of judge v last {field} {wanted} is asked here tells same =
-    let at = tells.1 ∙ class-same _ _ (ap (λ (f : List ℕ → ℕ). f last) same) in
-    is ∙ ap (λ (b : Bool). shown b judge.told) asked ∙ ap (shown (tells_causes o)) at ∙ ap (field_in o of) (sym here)
+    is ∙ ap (λ (b : Bool). shown b judge.told) asked ∙ ap (shown (tells_causes o)) (tells.1 ∙ same) ∙ ap (field_in o of) (sym here)
 
 -- what is said with the same disposition
 line_is : (text : Said → List ℕ) (v : List ℕ) {f g : Option Disposition} → f ≡ g → text (Listed f v) ≡ text (Listed g v)
@@ -55,7 +34,7 @@ goes_as : (old new : Progress) (next x : Line) → next ≡ x → GoesTo next ol
 goes_as old new next x is h = subst (λ (l : Line). GoesTo l old new) is h
 
 pub lines-init : goal.lines-init
-lines-init g c = record { under_way = c.requires.under_way; same_classes = refl; written = written-start _ _ _ _ _ refl refl; no_more = λ none. none }
+lines-init g c = record { under_way = c.requires.under_way; same_dispositions = λ v. refl; written = written-start _ _ _ _ _ refl refl; no_memory = λ none. none }
 
 -- ---- where no line comes
 
@@ -65,8 +44,8 @@ returns-in_err-line-clause-written g c =
     let written = c.lines.invariant.written in
     rw (p.1, p.2) (stops_after _ _ _ written.so_far _ written.split written.output_lines)
 
-pub returns-in_err-line-clause-begun : goal.returns-in_err-line-clause-begun
-returns-in_err-line-clause-begun g c = λ _. inr (λ none. not_ok c.in_err-line.was (c.advance.ensures.no_memory (c.lines.invariant.no_more none)))
+pub returns-in_err-line-clause-no_memory : goal.returns-in_err-line-clause-no_memory
+returns-in_err-line-clause-no_memory g c = λ none _. not_ok c.in_err-line.was (c.advance.ensures.no_memory (c.lines.invariant.no_memory none))
 
 -- ---- the last line
 
@@ -91,7 +70,7 @@ returns-in_err-write_variant-in-Variant-clause-written g c =
     let of : Listing = c.args.progress.now.judge.dispositions in
     let variant : List ℕ → Said = variant_by (field_in o of) in
     let here = ap (λ (v : List ℕ). variant v ∷ lines_ahead variant c.advance.new.self) (sym c.last-label.ensures.value) in
-    let told = tells_field o of c.advance.new.self.judge c.last-label.result.now c.advance.new.self.cursor.last c.shown-told.ensures c.tells_causes-wanted.ensures c.last-label.ensures.value goes.tells (c.advance.ensures.same_classes ∙ c.lines.invariant.same_classes) in
+    let told = tells_field o of c.advance.new.self.judge c.last-label.result.now c.advance.new.self.cursor.last c.shown-told.ensures c.tells_causes-wanted.ensures c.last-label.ensures.value goes.tells (c.advance.ensures.same_dispositions c.advance.new.self.cursor.last ∙ c.lines.invariant.same_dispositions c.advance.new.self.cursor.last) in
     rw p.1 (written-broken _ _ _ _ _ c.lines.invariant.written _ (variant c.last-label.result.now) _ c.write_variant.result p.0 (goes.said variant ∙ here)
     (emits_as _ _ Output _ _ c.write_variant.result (line_is (said_text c.args.asked.now.form (asked_line c.args.asked.now)) c.last-label.result.now told) c.write_variant.ensures.written) (c.in_err-write_variant-in-Variant.was ∙ ap Err (sym p.2)))
 
@@ -102,7 +81,7 @@ lines-preserved g c =
     let of : Listing = c.args.progress.now.judge.dispositions in
     let variant : List ℕ → Said = variant_by (field_in o of) in
     let here = ap (λ (v : List ℕ). variant v ∷ lines_ahead variant c.advance.new.self) (sym c.last-label.ensures.value) in
-    let told = tells_field o of c.advance.new.self.judge c.last-label.result.now c.advance.new.self.cursor.last c.shown-told.ensures c.tells_causes-wanted.ensures c.last-label.ensures.value goes.tells (c.advance.ensures.same_classes ∙ c.lines.invariant.same_classes) in
+    let told = tells_field o of c.advance.new.self.judge c.last-label.result.now c.advance.new.self.cursor.last c.shown-told.ensures c.tells_causes-wanted.ensures c.last-label.ensures.value goes.tells (c.advance.ensures.same_dispositions c.advance.new.self.cursor.last ∙ c.lines.invariant.same_dispositions c.advance.new.self.cursor.last) in
     let know = goes.under_way.known in
     record {
       under_way = record {
@@ -112,8 +91,8 @@ lines-preserved g c =
         within = goes.under_way.within;
         few = goes.under_way.few;
       };
-      same_classes = c.advance.ensures.same_classes ∙ c.lines.invariant.same_classes;
+      same_dispositions = λ v. c.advance.ensures.same_dispositions v ∙ c.lines.invariant.same_dispositions v;
       written = written-next _ _ _ _ _ c.lines.invariant.written _ (variant c.last-label.result.now) _ (goes.said variant ∙ here)
           (writes_as _ _ Output _ _ (line_is (said_text c.args.asked.now.form (asked_line c.args.asked.now)) c.last-label.result.now told) c.in_ok-write_variant-in-Variant.ensures.written);
-      no_more = λ none. goes.no_more (c.lines.invariant.no_more none);
+      no_memory = λ none. goes.no_memory (c.lines.invariant.no_memory none);
     }

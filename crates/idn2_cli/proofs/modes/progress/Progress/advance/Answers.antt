@@ -1,10 +1,13 @@
-use Rattle.std.proofs.Common.{◌≡◌, ◌∙◌, List, ℕ, Bool, Result, Ok, ap, sym, subst, inl, inr}
+use Rattle.std.proofs.Common.{◌≡◌, ◌∙◌, List, ℕ, Bool, Option, None, Some, Result, Ok, arith, refl, ap, sym, subst, inl, inr}
 use Rattle.std.specs.declared.alloc.AllocError.{AllocError}
 use Rattle.variant_list.specs.Steps.{IfDecided, IfFound}
 use Rattle.variant_list.specs.declared.cursor.Outcome.{Outcome}
 use Rattle.variant_list.specs.declared.cursor.Outcome.TheVariants as outcome
+use Rattle.answer_json.specs.declared.block.Disposition.{Disposition}
+use Rattle.answer_json.specs.declared.block.Disposition.TheVariants as told_as
 use Rattle.idn2_answers.specs.Listings.{Filter}
-use Rattle.idn2_cli.specs.inner.Blocks.{filter_of_judge}
+use Rattle.idn2_cli.specs.inner.Blocks.{class_by, class_of, disposition_by, filter_of_judge}
+use Rattle.idn2_cli.specs.inner.Dispositions.{Listing}
 use Rattle.idn2_cli.proofs.ListingProgress.{ended-from, found-from, halted-from, spent-from}
 use Rattle.idn2_cli.proofs.NextLines.{to-end, to-last_step, to-last_try, to-limit, to-variant}
 use Rattle.idn2_cli.proofs.modes.progress.Progress.advance.Goals as goal
@@ -22,6 +25,40 @@ same_filters : (j f : Filter) → j.accepts ≡ f.accepts → j.hopeless ≡ f.h
 same_filters j f same_labels same_beginnings =
     ap (λ (a : List ℕ → Bool). let made : Filter = record { accepts = a; hopeless = j.hopeless } in made) same_labels
     ∙ ap (λ (h : List ℕ → Bool). let made : Filter = record { accepts = f.accepts; hopeless = h } in made) same_beginnings
+
+-- classes tell dispositions apart
+class-same : (f g : Option Disposition) → class_of f ≡ class_of g → f ≡ g
+class-same None None e = refl
+class-same None (Some told_as.Allocatable) e = absurd (omega (arith, e))
+class-same None (Some told_as.Blocked) e = absurd (omega (arith, e))
+class-same None (Some told_as.Unclear) e = absurd (omega (arith, e))
+class-same (Some told_as.Allocatable) None e = absurd (omega (arith, e))
+class-same (Some told_as.Allocatable) (Some told_as.Allocatable) e = refl
+class-same (Some told_as.Allocatable) (Some told_as.Blocked) e = absurd (omega (arith, e))
+class-same (Some told_as.Allocatable) (Some told_as.Unclear) e = absurd (omega (arith, e))
+class-same (Some told_as.Blocked) None e = absurd (omega (arith, e))
+class-same (Some told_as.Blocked) (Some told_as.Allocatable) e = absurd (omega (arith, e))
+class-same (Some told_as.Blocked) (Some told_as.Blocked) e = refl
+class-same (Some told_as.Blocked) (Some told_as.Unclear) e = absurd (omega (arith, e))
+class-same (Some told_as.Unclear) None e = absurd (omega (arith, e))
+class-same (Some told_as.Unclear) (Some told_as.Allocatable) e = absurd (omega (arith, e))
+class-same (Some told_as.Unclear) (Some told_as.Blocked) e = absurd (omega (arith, e))
+class-same (Some told_as.Unclear) (Some told_as.Unclear) e = refl
+
+same_dispositions : (old new : Listing) → class_by new ≡ class_by old → (v : List ℕ) → disposition_by new v ≡ disposition_by old v
+same_dispositions old new same v = class-same _ _ (ap (λ (f : List ℕ → ℕ). f v) same)
+
+pub returns-in_err-seek-clause-same_dispositions : goal.returns-in_err-seek-clause-same_dispositions
+returns-in_err-seek-clause-same_dispositions c = same_dispositions c.args.self.now.judge.dispositions c.seek.new.judge.dispositions c.seek.ensures.same_classes
+
+pub returns-in-Found-clause-same_dispositions : goal.returns-in-Found-clause-same_dispositions
+returns-in-Found-clause-same_dispositions c = same_dispositions c.args.self.now.judge.dispositions c.seek.new.judge.dispositions c.seek.ensures.same_classes
+
+pub returns-in-OutOfTries-clause-same_dispositions : goal.returns-in-OutOfTries-clause-same_dispositions
+returns-in-OutOfTries-clause-same_dispositions c = same_dispositions c.args.self.now.judge.dispositions c.seek.new.judge.dispositions c.seek.ensures.same_classes
+
+pub returns-in-Ended-clause-same_dispositions : goal.returns-in-Ended-clause-same_dispositions
+returns-in-Ended-clause-same_dispositions c = same_dispositions c.args.self.now.judge.dispositions c.seek.new.judge.dispositions c.seek.ensures.same_classes
 
 pub returns-then-is_reached-clause-goes : goal.returns-then-is_reached-clause-goes
 returns-then-is_reached-clause-goes c = to-limit c.args.self.now c.requires.under_way (sym c.is_reached.ensures ∙ c.if-is_reached.true)
