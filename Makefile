@@ -36,7 +36,7 @@ run:
 	else \
 	    echo 'builds without a proof, for about a minute' >&2; \
 	    (cd crates/idn2 && $(RT) try -- --variants '$(CURDIR)/tables/german.txt' strasse) && \
-	        echo 'not proved yet: make proves it, in an hour or two'; \
+	        echo 'not proved yet: make proves it, in an hour'; \
 	fi
 
 # The gate: proves everything from nothing, tries the mutants, runs the programs and the tests.

@@ -609,7 +609,7 @@ def ends_as_the_readme_shows(folder):
     assert done.stdout == re.sub("(?m)^    ", "", shown) + "proved\n", (shown, done)
 
 
-NOT_PROVED = "not proved yet: make proves it, in an hour or two"
+NOT_PROVED = "not proved yet: make proves it, in an hour"
 
 
 def runs_the_main_job_without_a_proof_until_make_has_made_it(folder):
