@@ -4,7 +4,6 @@ use Rattle.std.proofs.lemmas.List.Elements.{All-drop}
 use Rattle.idn_label.specs.FirstFault.{IsRegistrable}
 use Rattle.idn_label.specs.Memory.{NeedsNoMemory}
 use Rattle.idn_text.specs.Points.{AreScalarValues}
-use Rattle.idn_class.specs.declared.properties.Properties.{Properties}
 use Rattle.variant_list.specs.Positions.{Built, Position, tested_ahead}
 use Rattle.variant_list.specs.Tested.{tested_among}
 use Rattle.variant_list.proofs.TestedLaws.{tested-cut}
@@ -12,12 +11,11 @@ use Rattle.answer_json.specs.declared.block.Disposition.{Disposition}
 use Rattle.idn2_options.specs.Settings.{IsWithinLimits, Settings}
 use Rattle.idn2_answers.specs.Listings.{Filter, tested_after, variant_by}
 use Rattle.idn2_cli.specs.declared.modes.variant_judge.VariantJudge.{VariantJudge}
-use Rattle.idn2_cli.specs.declared.modes.progress.Progress.{Progress}
 use Rattle.idn2_cli.specs.inner.Blocks.{KnowsLabel, Tells, filter_of_judge}
 use Rattle.idn2_cli.specs.inner.CachedLines.{IsBegun}
 use Rattle.idn2_cli.specs.inner.Dispositions.{block_by}
 use Rattle.idn2_cli.specs.inner.LineAnswers.{reaches}
-use Rattle.idn2_cli.specs.inner.Progress.{GoesToEnd, GoesToStop, GoesToVariant, IsUnderWay, IsWritable, GoesOnWithoutMemory, lines_ahead, block_from, more_to, stop_from, variants_ahead}
+use Rattle.idn2_cli.specs.inner.Progress.{Progress, first_counts, progress_of, GoesToEnd, GoesToStop, GoesToVariant, IsUnderWay, IsWritable, GoesOnWithoutMemory, lines_ahead, block_from, more_to, stop_from, variants_ahead}
 use Rattle.idn2_cli.specs.inner.Ruling.{filter_for}
 use Rattle.idn2_cli.proofs.ListingLemmas.{block-start, start-writable}
 use Rattle.idn2_cli.proofs.ListingProgress.{HasEnded, HasFound, RunsOutOfSteps, RunsOutOfTries, ended-lines, found-ahead, found-lines, found-writable, halted-lines, halted-writable, reached-lines, spent-lines, spent-writable}
@@ -26,51 +24,27 @@ use Rattle.idn2_cli.proofs.StopSteps.{HasMore, more-within, unreached-more}
 
 -- ---- the start of a block
 
--- nothing came yet: the cursor stands at the text of the settings, with the limit, the tries and the steps of these
-pub record IsAtStart (o : Settings) (graph : Built) (start : Progress) : Type 0 where
-  pub asked : filter_of_judge start.judge ≡ filter_for o.properties start.judge.validity start.judge.dispositions
-  pub limit : start.limit ≡ o.limit
-  pub tries : start.tries ≡ o.tries
-  pub steps : start.steps ≡ o.steps
-  pub none : start.count ≡ 0
-  pub net : start.cursor.net ≡ graph
-  pub last : start.cursor.last ≡ take 63 o.after
-
-pub at-start : (s o : Settings) (net : Built) (after : List ℕ) (cursor : Position) (judge : VariantJudge) → s ≡ o → after ≡ s.after → cursor ≡ record { net = net; last = take 63 after; edge_tests = 0 } → judge.properties ≡ s.properties
-    → IsAtStart o net (record { cursor = cursor; judge = judge; limit = s.limit; tries = s.tries; steps = s.steps; count = 0 })
-at-start s o net after cursor judge same here stands by = record {
-  asked = ap (λ (p : Properties). filter_for p judge.validity judge.dispositions) (by ∙ ap (λ (s : Settings). s.properties) same);
-  limit = ap (λ (s : Settings). s.limit) same;
-  tries = ap (λ (s : Settings). s.tries) same;
-  steps = ap (λ (s : Settings). s.steps) same;
-  none = refl;
-  net = ap (λ (p : Position). p.net) stands;
-  last = ap (λ (p : Position). p.last) stands ∙ ap (take 63) (here ∙ ap (λ (s : Settings). s.after) same);
-}
-
-module _ (o : Settings) (net : Built) (start : Progress) (limits : IsWithinLimits o) (at : IsAtStart o net start) where
+module _ (o : Settings) (net : Built) (cursor : Position) (judge : VariantJudge) (limits : IsWithinLimits o) (by : filter_of_judge judge ≡ filter_for o.properties judge.validity judge.dispositions)
+    (same_net : cursor.net ≡ net) (same_last : cursor.last ≡ take 63 o.after) where
   abbrev asked : Filter
-  asked = filter_for o.properties start.judge.validity start.judge.dispositions
+  asked = filter_for o.properties judge.validity judge.dispositions
+
+  abbrev start : Progress
+  start = progress_of cursor judge (first_counts o)
 
   -- all of it is still to come
   pub start-lines : (field : List ℕ → Option Disposition) → block_by asked field o net.spelled ≡ lines_ahead (variant_by field) start
   start-lines field =
-      let line = variant_by field in
-      let p = start.cursor in
-      block-start o.properties asked (filter_for-IsSound o.properties start.judge.validity start.judge.dispositions) field o net limits p at.net at.last
-      ∙ ap (λ (limit : Option ℕ). block_from line 0 (stop_from asked p (more_to limit 0) o.tries o.steps) (variants_ahead asked p)) (sym at.limit)
-      ∙ ap (λ (tries : ℕ). block_from line 0 (stop_from asked p (more_to start.limit 0) tries o.steps) (variants_ahead asked p)) (sym at.tries)
-      ∙ ap (λ (steps : Option ℕ). block_from line 0 (stop_from asked p (more_to start.limit 0) start.tries steps) (variants_ahead asked p)) (sym at.steps)
-      ∙ ap (λ (count : ℕ). block_from line count (stop_from asked p (more_to start.limit count) start.tries start.steps) (variants_ahead asked p)) (sym at.none)
-      ∙ ap (λ (f : Filter). block_from line start.count (stop_from f p (more_to start.limit start.count) start.tries start.steps) (variants_ahead f p)) (sym at.asked)
+      block-start o.properties asked (filter_for-IsSound o.properties judge.validity judge.dispositions) field o net limits cursor same_net same_last
+      ∙ ap (λ (f : Filter). block_from (variant_by field) 0 (stop_from f cursor (more_to o.limit 0) o.tries o.steps) (variants_ahead f cursor)) (sym by)
 
-  pub start-under_way : All AreScalarValues net.spelled → KnowsLabel start.judge start.cursor.last → IsUnderWay start
+  pub start-under_way : All AreScalarValues net.spelled → KnowsLabel judge cursor.last → IsUnderWay start
   start-under_way spelled known = record {
     known = known;
-    writable = subst IsWritable (sym at.last) (start-writable o.after limits.after_points);
-    spelled = subst (λ (b : Built). All AreScalarValues b.spelled) (sym at.net) spelled;
-    within = subst (λ (n : ℕ). IfSome start.limit (λ limit. n ≤ limit)) (sym at.none) (nothing-within start.limit);
-    few = omega (arith, at.none, at.tries, limits.tries.1);
+    writable = subst IsWritable (sym same_last) (start-writable o.after limits.after_points);
+    spelled = subst (λ (b : Built). All AreScalarValues b.spelled) (sym same_net) spelled;
+    within = nothing-within o.limit;
+    few = omega (arith, limits.tries.1);
   }
     where
       nothing-within : (limit : Option ℕ) → IfSome limit (λ n. 0 ≤ n)
@@ -79,9 +53,9 @@ module _ (o : Settings) (net : Built) (start : Progress) (limits : IsWithinLimit
 
   pub start-no_memory : All NeedsNoMemory (tested_after asked o net.spelled) → GoesOnWithoutMemory start
   start-no_memory all =
-      subst (λ (f : Filter). All NeedsNoMemory (tested_among f.hopeless start.cursor.net.spelled start.cursor.last)) (sym at.asked)
-      (subst (λ (b : Built). All NeedsNoMemory (tested_among asked.hopeless b.spelled start.cursor.last)) (sym at.net)
-      (subst (λ (last : List ℕ). All NeedsNoMemory (tested_among asked.hopeless net.spelled last)) (sym at.last) (subst (All NeedsNoMemory) (tested-cut asked.hopeless net.spelled o.after) all)))
+      subst (λ (f : Filter). All NeedsNoMemory (tested_among f.hopeless cursor.net.spelled cursor.last)) (sym by)
+      (subst (λ (b : Built). All NeedsNoMemory (tested_among asked.hopeless b.spelled cursor.last)) (sym same_net)
+      (subst (λ (last : List ℕ). All NeedsNoMemory (tested_among asked.hopeless net.spelled last)) (sym same_last) (subst (All NeedsNoMemory) (tested-cut asked.hopeless net.spelled o.after) all)))
 
 -- ---- the next line
 

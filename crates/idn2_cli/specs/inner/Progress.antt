@@ -10,11 +10,38 @@ use Rattle.variant_list.specs.Positions.{Position, tested_ahead}
 use Rattle.variant_list.specs.Visited.{visited_ahead}
 use Rattle.idn2_answers.specs.Listings.{Filter, lesser_label, up_to}
 use Rattle.idn2_answers.specs.Said.{Said, BlockEnd}
-use Rattle.idn2_cli.specs.declared.modes.progress.Line.{Line}
-use Rattle.idn2_cli.specs.declared.modes.progress.Line.TheVariants.{Variant, Stop, End}
-use Rattle.idn2_cli.specs.declared.modes.progress.Progress.{Progress}
+use Rattle.idn2_options.specs.Settings.{Settings}
+use Rattle.idn2_cli.specs.declared.modes.counts.Counts.{Counts}
+use Rattle.idn2_cli.specs.declared.modes.counts.Line.{Line}
+use Rattle.idn2_cli.specs.declared.modes.counts.Line.TheVariants.{Variant, Stop, End}
+use Rattle.idn2_cli.specs.declared.modes.variant_judge.VariantJudge.{VariantJudge}
 use Rattle.idn2_cli.specs.inner.Blocks.{KnowsLabel, Tells, filter_of_judge}
 use Rattle.idn2_cli.specs.inner.CachedLines.{IsBegun}
+
+-- a block under way: where its cursor stands, what judges its variants, how many may be listed, how many more labels may
+-- be tested and steps be taken, and how many variants are listed so far
+pub record Progress : Type 0 where
+  pub cursor : Position
+  pub judge : VariantJudge
+  pub limit : Option ℕ
+  pub tries : ℕ
+  pub steps : Option ℕ
+  pub count : ℕ
+
+-- by what is counted
+abbrev pub progress_of : Position → VariantJudge → Counts → Progress
+progress_of cursor judge counts = record {
+  cursor = cursor;
+  judge = judge;
+  limit = counts.limit;
+  tries = counts.tries;
+  steps = counts.steps;
+  count = counts.count;
+}
+
+-- before the first line
+abbrev pub first_counts : Settings → Counts
+first_counts o = record { limit = o.limit; tries = o.tries; steps = o.steps; count = 0 }
 
 -- ---- what is still to come
 

@@ -17,14 +17,14 @@ ghost use Rattle.idn2_cli.specs.Memory.{TestsWithoutMemory};
 ghost use Rattle.idn2_cli.specs.inner.Asked.{lines_to, said_to};
 ghost use Rattle.idn2_cli.specs.inner.Blocks.{block_output, field_in};
 ghost use Rattle.idn2_cli.specs.inner.CachedLines.{IsBegun};
-ghost use Rattle.idn2_cli.specs.inner.Progress.{IsUnderWay, GoesOnWithoutMemory, lines_ahead};
+ghost use Rattle.idn2_cli.specs.inner.Progress.{GoesOnWithoutMemory, IsUnderWay, first_counts, lines_ahead, progress_of};
 ghost use Rattle.idn2_cli.specs.inner.Ruling.{KeepsOf, filter_for, ruling_in, ruling_of};
 ghost use Rattle.idn2_output.specs.declared.stop.Stop.TheVariants as stop;
 
 use crate::modes::asked::Asked;
 use crate::modes::cached_line::CachedLine;
+use crate::modes::counts::{Counts, Line};
 use crate::modes::label_dispositions::LabelDispositions;
-use crate::modes::progress::{Line, Progress};
 use crate::modes::variant_judge::VariantJudge;
 use answer_json::{Disposition, Input};
 use arrayvec::{ArrayString, ArrayVec};
@@ -61,52 +61,51 @@ pub(crate) fn write_block<W: Sink, E: Sink>(
         net.now.spelled)
         console.old console.new result }
 {
-    let cursor = Cursor::new(alloc, net, &options.after)?;
-    let mut progress = Progress {
-        cursor,
-        judge: VariantJudge {
-            beginnings: CachedPrefixes::new(),
-            test: CachedALabel::new(),
-            line: CachedLine::new(),
-            validity,
-            dispositions,
-            told: None,
-            properties: options.properties,
-        },
-        limit: options.limit,
-        tries: options.tries,
-        steps: options.steps,
-        count: 0,
+    let mut cursor = Cursor::new(alloc, net, &options.after)?;
+    let mut judge = VariantJudge {
+        beginnings: CachedPrefixes::new(),
+        test: CachedALabel::new(),
+        line: CachedLine::new(),
+        validity,
+        dispositions,
+        told: None,
+        properties: options.properties,
     };
-    write_lines(alloc, asked, options, &mut progress, console)
+    write_lines(alloc, asked, options, &mut cursor, &mut judge, console)
 }
 
-/// Writes the lines of a block that are still to come.
+/// Writes the lines of a block of which none is listed yet.
+///
+/// Always inline: it has one call.
+#[inline(always)]
 fn write_lines<W: Sink, E: Sink>(
     alloc: Global,
     asked: &Asked<'_>,
     options: &Options,
-    progress: &mut Progress<'_, '_, '_>,
+    cursor: &mut Cursor<'_>,
+    judge: &mut VariantJudge<'_, '_>,
     console: &mut Console<'_, '_, W, E>,
 ) -> Result<(), Stop>
-    requires under_way { IsUnderWay progress.old }
-    ensures written { Emits console.old console.new (lines_to asked.now
-        (lines_ahead (variant_by (field_in options.now progress.old.judge.dispositions)) progress.old)) result }
-    ensures no_memory { GoesOnWithoutMemory progress.old → result ≢ Err stop.Memory }
+    requires under_way { IsUnderWay (progress_of cursor.old judge.old (first_counts options.now)) }
+    ensures written { Emits console.old console.new (lines_to asked.now (lines_ahead
+        (variant_by (field_in options.now judge.old.dispositions))
+        (progress_of cursor.old judge.old (first_counts options.now)))) result }
+    ensures no_memory { GoesOnWithoutMemory (progress_of cursor.old judge.old (first_counts options.now)) →
+        result ≢ Err stop.Memory }
 {
     let wanted = options.tells_causes();
+    let mut counts = Counts::new(options);
     'lines: loop {
-        let line = progress.advance(alloc)?;
-        let (count, judge) = (progress.count, &mut progress.judge);
-        let label = progress.cursor.last();
+        let line = counts.advance(alloc, cursor, judge)?;
+        let label = cursor.last();
         match line {
             Line::Variant => {
                 let told = shown(wanted, judge.told);
                 let a_label = judge.test.a_label();
                 write_variant(asked, label, a_label, told, &mut judge.line, console)?;
             }
-            Line::Stop => return write_stop(asked, count, label, &mut judge.line, console),
-            Line::End => return write_end(asked, count, console),
+            Line::Stop => return write_stop(asked, counts.count, label, &mut judge.line, console),
+            Line::End => return write_end(asked, counts.count, console),
         }
     }
 }

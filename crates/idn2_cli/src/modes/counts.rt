@@ -1,11 +1,12 @@
-//! How far the block of a label has come, and which of its lines is the next.
+//! How much of a block is listed, how much more may be, and which of its lines is the next.
 
 ghost use Rattle.std.specs.Prelude.{◌≡◌, ℕ, List, IfOk, IsOk};
 ghost use Rattle.idn2_cli.specs.inner.Blocks.{disposition_by};
 ghost use Rattle.idn2_cli.specs.inner.LineAnswers.{reaches};
-ghost use Rattle.idn2_cli.specs.inner.Progress.{GoesTo, IsUnderWay, GoesOnWithoutMemory};
+ghost use Rattle.idn2_cli.specs.inner.Progress.{GoesOnWithoutMemory, GoesTo, IsUnderWay, first_counts, progress_of};
 
 use crate::modes::variant_judge::VariantJudge;
+use idn2_options::Options;
 use std::alloc::{AllocError, Global};
 use variant_list::{Cursor, Outcome};
 
@@ -20,38 +21,53 @@ pub(crate) enum Line {
     End,
 }
 
-/// How far the block of a label has come.
-#[derive(Drop)]
-pub(crate) struct Progress<'n, 'p, 'd> {
-    pub cursor: Cursor<'n>,
-    pub judge: VariantJudge<'p, 'd>,
+/// How much of a block is listed, and how much more may be.
+#[derive(Clone, Copy)]
+pub(crate) struct Counts {
     /// How many variants may be listed, if that is bounded.
-    pub limit: Option<u64>,
+    limit: Option<u64>,
     /// How many more labels may be tested.
-    pub tries: u64,
+    tries: u64,
     /// How many more steps may be taken, if that is bounded.
-    pub steps: Option<u64>,
+    steps: Option<u64>,
     /// How many variants are listed so far.
     pub count: u64,
 }
 
-impl<'n, 'p, 'd> Progress<'n, 'p, 'd> {
+impl Counts {
+    /// Nothing is listed yet.
+    pub(crate) fn new(options: &Options) -> Counts
+        ensures { result ≡ first_counts options.now }
+    {
+        Counts {
+            limit: options.limit,
+            tries: options.tries,
+            steps: options.steps,
+            count: 0,
+        }
+    }
+
     /// Goes on to the next line. It isn't called again after the last one, or after an error.
     ///
     /// Always inline: it has one call, in the loop over a block's lines.
     #[inline(always)]
-    pub(crate) fn advance(&mut self, alloc: Global) -> Result<Line, AllocError>
-        requires under_way { IsUnderWay self.old }
-        ensures goes { IfOk result (λ line. GoesTo line self.old self.new) }
-        ensures no_memory { GoesOnWithoutMemory self.old → IsOk result }
-        ensures same_dispositions { (v : List ℕ) → disposition_by self.new.judge.dispositions v ≡
-            disposition_by self.old.judge.dispositions v }
+    pub(crate) fn advance(
+        &mut self,
+        alloc: Global,
+        cursor: &mut Cursor<'_>,
+        judge: &mut VariantJudge<'_, '_>,
+    ) -> Result<Line, AllocError>
+        requires under_way { IsUnderWay (progress_of cursor.old judge.old self.old) }
+        ensures goes { IfOk result (λ line.
+            GoesTo line (progress_of cursor.old judge.old self.old) (progress_of cursor.new judge.new self.new)) }
+        ensures no_memory { GoesOnWithoutMemory (progress_of cursor.old judge.old self.old) → IsOk result }
+        ensures same_dispositions { (v : List ℕ) →
+            disposition_by judge.new.dispositions v ≡ disposition_by judge.old.dispositions v }
     {
         if is_reached(self.limit, self.count) {
             return Ok(Line::Stop);
         }
-        let (judge, tries, steps) = (&mut self.judge, &mut self.tries, &mut self.steps);
-        match self.cursor.seek(alloc, judge, tries, steps)? {
+        match cursor.seek(alloc, judge, &mut self.tries, &mut self.steps)? {
             Outcome::Found => {
                 self.count += 1;
                 Ok(Line::Variant)

@@ -8,9 +8,10 @@ use Rattle.answer_json.specs.declared.block.Disposition.TheVariants as told_as
 use Rattle.idn2_answers.specs.Listings.{Filter}
 use Rattle.idn2_cli.specs.inner.Blocks.{class_by, class_of, disposition_by, filter_of_judge}
 use Rattle.idn2_cli.specs.inner.Dispositions.{Listing}
+use Rattle.idn2_cli.specs.inner.Progress.{progress_of}
 use Rattle.idn2_cli.proofs.ListingProgress.{ended-from, found-from, halted-from, spent-from}
 use Rattle.idn2_cli.proofs.NextLines.{to-end, to-last_step, to-last_try, to-limit, to-variant}
-use Rattle.idn2_cli.proofs.modes.progress.Progress.advance.Goals as goal
+use Rattle.idn2_cli.proofs.modes.counts.Counts.advance.Goals as goal
 
 -- what the judge keeps is of the cursor's label, unless the listing has ended
 decided-as : (P : Type 0) (r : Result Outcome AllocError) (o x : Outcome) → r ≡ Ok o → o ≡ x → IfDecided r P → IfDecided (Ok x) P
@@ -49,46 +50,46 @@ same_dispositions : (old new : Listing) → class_by new ≡ class_by old → (v
 same_dispositions old new same v = class-same _ _ (ap (λ (f : List ℕ → ℕ). f v) same)
 
 pub returns-in_err-seek-clause-same_dispositions : goal.returns-in_err-seek-clause-same_dispositions
-returns-in_err-seek-clause-same_dispositions c = same_dispositions c.args.self.now.judge.dispositions c.seek.new.judge.dispositions c.seek.ensures.same_classes
+returns-in_err-seek-clause-same_dispositions c = same_dispositions c.args.judge.now.dispositions c.seek.new.judge.dispositions c.seek.ensures.same_classes
 
 pub returns-in-Found-clause-same_dispositions : goal.returns-in-Found-clause-same_dispositions
-returns-in-Found-clause-same_dispositions c = same_dispositions c.args.self.now.judge.dispositions c.seek.new.judge.dispositions c.seek.ensures.same_classes
+returns-in-Found-clause-same_dispositions c = same_dispositions c.args.judge.now.dispositions c.seek.new.judge.dispositions c.seek.ensures.same_classes
 
 pub returns-in-OutOfTries-clause-same_dispositions : goal.returns-in-OutOfTries-clause-same_dispositions
-returns-in-OutOfTries-clause-same_dispositions c = same_dispositions c.args.self.now.judge.dispositions c.seek.new.judge.dispositions c.seek.ensures.same_classes
+returns-in-OutOfTries-clause-same_dispositions c = same_dispositions c.args.judge.now.dispositions c.seek.new.judge.dispositions c.seek.ensures.same_classes
 
 pub returns-in-Ended-clause-same_dispositions : goal.returns-in-Ended-clause-same_dispositions
-returns-in-Ended-clause-same_dispositions c = same_dispositions c.args.self.now.judge.dispositions c.seek.new.judge.dispositions c.seek.ensures.same_classes
+returns-in-Ended-clause-same_dispositions c = same_dispositions c.args.judge.now.dispositions c.seek.new.judge.dispositions c.seek.ensures.same_classes
 
 pub returns-then-is_reached-clause-goes : goal.returns-then-is_reached-clause-goes
-returns-then-is_reached-clause-goes c = to-limit c.args.self.now c.requires.under_way (sym c.is_reached.ensures ∙ c.if-is_reached.true)
+returns-then-is_reached-clause-goes c = to-limit (progress_of c.args.cursor.now c.args.judge.now c.args.self.now) c.requires.under_way (sym c.is_reached.ensures ∙ c.if-is_reached.true)
 
 pub returns-in-Found-clause-goes : goal.returns-in-Found-clause-goes
 returns-in-Found-clause-goes c =
-    let f = filter_of_judge c.args.self.now.judge in
-    let found = found-from f c.args.self.now.cursor c.seek.new.self c.args.self.now.tries c.seek.new.tries c.args.self.now.steps c.seek.new.steps c.seek.result c.in_ok-seek.field-0 c.in_ok-seek.was c.seek.ensures.decided c.seek.ensures.moves c.seek.ensures.steps c.in-Found.is in
-    to-variant c.args.self.now c.seek.new.self c.seek.new.judge c.seek.new.tries c.seek.new.steps c.requires.under_way (sym c.is_reached.ensures ∙ c.if-is_reached.false)
+    let f = filter_of_judge c.args.judge.now in
+    let found = found-from f c.args.cursor.now c.seek.new.self c.args.self.now.tries c.seek.new.tries c.args.self.now.steps c.seek.new.steps c.seek.result c.in_ok-seek.field-0 c.in_ok-seek.was c.seek.ensures.decided c.seek.ensures.moves c.seek.ensures.steps c.in-Found.is in
+    to-variant (progress_of c.args.cursor.now c.args.judge.now c.args.self.now) c.seek.new.self c.seek.new.judge c.seek.new.tries c.seek.new.steps c.requires.under_way (sym c.is_reached.ensures ∙ c.if-is_reached.false)
     (same_filters (filter_of_judge c.seek.new.judge) f c.seek.ensures.same_labels c.seek.ensures.same_beginnings) found
     (decided-as _ c.seek.result c.in_ok-seek.field-0 outcome.Found c.in_ok-seek.was c.in-Found.is c.seek.ensures.kept)
     (found-as _ c.seek.result c.in_ok-seek.field-0 c.in_ok-seek.was c.in-Found.is c.seek.ensures.verdict)
 
 pub returns-in-OutOfTries-clause-goes : goal.returns-in-OutOfTries-clause-goes
 returns-in-OutOfTries-clause-goes c =
-    let f = filter_of_judge c.args.self.now.judge in
+    let f = filter_of_judge c.args.judge.now in
     let going = sym c.is_reached.ensures ∙ c.if-is_reached.false in
     elim c.in-OutOfTries.is [
       | inl is ↦
-          to-last_try c.args.self.now c.seek.new.self c.seek.new.judge c.seek.new.tries c.seek.new.steps c.requires.under_way going
-          (spent-from f c.args.self.now.cursor c.seek.new.self c.args.self.now.tries c.seek.new.tries c.args.self.now.steps c.seek.new.steps c.seek.result c.in_ok-seek.field-0 c.in_ok-seek.was c.seek.ensures.decided c.seek.ensures.moves c.seek.ensures.steps is)
+          to-last_try (progress_of c.args.cursor.now c.args.judge.now c.args.self.now) c.seek.new.self c.seek.new.judge c.seek.new.tries c.seek.new.steps c.requires.under_way going
+          (spent-from f c.args.cursor.now c.seek.new.self c.args.self.now.tries c.seek.new.tries c.args.self.now.steps c.seek.new.steps c.seek.result c.in_ok-seek.field-0 c.in_ok-seek.was c.seek.ensures.decided c.seek.ensures.moves c.seek.ensures.steps is)
           (decided-as _ c.seek.result c.in_ok-seek.field-0 outcome.OutOfTries c.in_ok-seek.was is c.seek.ensures.kept).2
       | inr is ↦
-          to-last_step c.args.self.now c.seek.new.self c.seek.new.judge c.seek.new.tries c.seek.new.steps c.requires.under_way going
-          (halted-from f c.args.self.now.cursor c.seek.new.self c.args.self.now.tries c.seek.new.tries c.args.self.now.steps c.seek.new.steps c.seek.result c.in_ok-seek.field-0 c.in_ok-seek.was c.seek.ensures.decided c.seek.ensures.moves c.seek.ensures.steps is)
+          to-last_step (progress_of c.args.cursor.now c.args.judge.now c.args.self.now) c.seek.new.self c.seek.new.judge c.seek.new.tries c.seek.new.steps c.requires.under_way going
+          (halted-from f c.args.cursor.now c.seek.new.self c.args.self.now.tries c.seek.new.tries c.args.self.now.steps c.seek.new.steps c.seek.result c.in_ok-seek.field-0 c.in_ok-seek.was c.seek.ensures.decided c.seek.ensures.moves c.seek.ensures.steps is)
           (decided-as _ c.seek.result c.in_ok-seek.field-0 outcome.OutOfSteps c.in_ok-seek.was is c.seek.ensures.kept).2
     ]
 
 pub returns-in-Ended-clause-goes : goal.returns-in-Ended-clause-goes
 returns-in-Ended-clause-goes c =
-    let f = filter_of_judge c.args.self.now.judge in
-    to-end c.args.self.now c.seek.new.self c.seek.new.judge c.seek.new.tries c.seek.new.steps c.requires.under_way (sym c.is_reached.ensures ∙ c.if-is_reached.false)
-    (ended-from f c.args.self.now.cursor c.seek.new.self c.args.self.now.tries c.seek.new.tries c.args.self.now.steps c.seek.new.steps c.seek.result c.in_ok-seek.field-0 c.in_ok-seek.was c.seek.ensures.decided c.seek.ensures.moves c.seek.ensures.steps c.in-Ended.is)
+    let f = filter_of_judge c.args.judge.now in
+    to-end (progress_of c.args.cursor.now c.args.judge.now c.args.self.now) c.seek.new.self c.seek.new.judge c.seek.new.tries c.seek.new.steps c.requires.under_way (sym c.is_reached.ensures ∙ c.if-is_reached.false)
+    (ended-from f c.args.cursor.now c.seek.new.self c.args.self.now.tries c.seek.new.tries c.args.self.now.steps c.seek.new.steps c.seek.result c.in_ok-seek.field-0 c.in_ok-seek.was c.seek.ensures.decided c.seek.ensures.moves c.seek.ensures.steps c.in-Ended.is)
